@@ -1,2 +1,4 @@
+pub mod Formats
 pub mod Laws
+pub mod Range
 pub mod Rounding

@@ -14,6 +14,7 @@ use lib.Ieee.Fits.{up-pos, down-pos, and-l, and-r, round-is, round-fits}
 use lib.Ieee.Scale.{round-same}
 use lib.Ieee.Back.{whole-unique}
 use Rattle.floats.specs.Floats.{absOf, roundOf, ofSmall}
+use Rattle.floats.proofs.Formats.{Held, held, exact, pow-le}
 use Rattle.floats.proofs.Laws.{value-whole, small-exact}
 
 -- ---- the sign
@@ -34,40 +35,7 @@ neg-units f s q k = go (ltb (q * 2 ^ k) (2 ^ (low f + suc (emax f))))
 neg-round : (f : Format) (s : Bool) (a c : ℕ) → neg (round f s a c) ≡ round f (not s) a c
 neg-round f s a c = ap neg (round-is f s a c) ∙ neg-units f s _ _ ∙ sym (round-is f (not s) a c)
 
--- ---- what fits a format, of a value other than zero
-
-record Held (f : Format) (m : ℕ) (e : ℤ) : Type 0 where
-  few : m < 2 ^ prec f
-  deep : down e ≤ 2 ^ low f
-  under : m * up e < 2 ^ suc (emax f) * down e
-
-held : (f : Format) (s : Bool) (m : ℕ) (e : ℤ) → T (fits f (fin s (suc m) e)) → Held f (suc m) e
-unfolding fits
-held f s m e h =
-    let a = eqb (suc m % 2) 1 in
-    let b = ltb (suc m) (2 ^ prec f) in
-    let c = leb (down e) (2 ^ low f) in
-    let d = ltb (suc m * up e) (2 ^ suc (emax f) * down e) in
-    let abc : T (a && b && c) = and-l (a && b && c) d h in
-    record {
-      few = ltb→lt (suc m) (2 ^ prec f) (and-r a b (and-l (a && b) c abc));
-      deep = leb→le (down e) (2 ^ low f) (and-r (a && b) c abc);
-      under = ltb→lt (suc m * up e) (2 ^ suc (emax f) * down e) (and-r (a && b && c) d h);
-    }
-
--- a value of m's digits that is below the format's top is not changed by rounding: i / d is m * 2 ^ j units
-exact : (f : Format) (s : Bool) (i d m j : ℕ) → 0 < d → m < 2 ^ prec f → i < 2 ^ suc (emax f) * d → i * 2 ^ low f ≡ m * 2 ^ j * d → HasValue (round f s i d) s i d
-exact f s i d m j D few under e =
-    round-exact f s i d m j D few
-    (lt-of-mul-lt-mul-right d
-    (lt-of-le-of-lt (le-of-eq (sym e)) (lt-of-lt-of-le (mul-lt-mul-of-pos-right under (pow-pos (low f)))
-    (le-of-eq (mul-right-comm (2 ^ suc (emax f)) d (2 ^ low f) ∙ ap (λ (n : ℕ). n * d) (mul-comm (2 ^ suc (emax f)) (2 ^ low f) ∙ sym (pow-add 2 (low f) (suc (emax f)))))))))
-    e
-
 -- ---- twice a value
-
-pow-le : (k l : ℕ) → 2 ^ suc k ≤ 2 ^ l → suc k ≤ l
-pow-le k l h = lt-of-not-le (λ (g : l ≤ k). not-le-of-lt (pow-lt (suc-le-suc g)) h)
 
 -- in units of the format's smallest value
 doubled-units : (f : Format) (m : ℕ) (e : ℤ) → Held f m e → (j : ℕ) × (2 * (m * up e) * 2 ^ low f ≡ m * 2 ^ j * down e)
