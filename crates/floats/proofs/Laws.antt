@@ -4,7 +4,7 @@ use mathlib.Core.Bool.{Bool, true, false, not, _&&_, cond, true≢false}
 use Prim.Native.Nat.{ℕ, zero, suc, _+_, _-_, _*_, _/_, _%_, _^_, _≤_, _<_, min}
 use native.Mathlib.Nat.{zero-div, zero-mul, add-mod-left, mod-eq-of-lt, mod-lt, mul-div-mul-right, div-lt-iff-lt-mul, div-le-self, le-div-iff-mul-le, le-trans, le-of-eq, le-suc, lt-of-lt-of-le, lt-irrefl, lt-of-le-of-lt, mul-comm}
 use native.Mathlib.Omega.{arith}
-use borrow.Author.Tests.{ltb-true, ltb-false, lt-leb}
+use borrow.Author.Tests.{ltb-true, ltb-false, lt-leb, ne-eqb}
 use lib.IntN.{ℤ, pos, negsuc, negℤ, _-ℤ_, +ℤ-idl}
 use mir.Syntax.{w16}
 use mir.Val.{SFits, toZ, ofZ}
@@ -99,17 +99,13 @@ value-whole w (fin false m e) a c C h v =
     ap (λ (q : ℕ). min q (2 ^ w - 1)) same ∙ uncapped (a / c) (2 ^ w) h
 
 -- a pattern with the sign clear and an exponent field x + 1 that is no infinity's has its digits, the leading one put in front, times 2 ^ x units
-normal : (f : Format) (x t : ℕ) → suc x < ones f → HasValue (ofFields f false (suc x) t) false ((hid f + t) * 2 ^ x) (2 ^ low f)
+pub normal : (f : Format) (x t : ℕ) → eqb (suc x) (ones f) ≡ false → HasValue (ofFields f false (suc x) t) false ((hid f + t) * 2 ^ x) (2 ^ low f)
 unfolding ofFields
-normal f x t h = go (eqb (suc x) (ones f)) (eqb→eq (suc x) (ones f))
-  where
-    go : (b : Bool) → (T b → suc x ≡ ones f) → HasValue (cond b (cond (eqb t 0) (inf false) nan) (odd (prec f) false (hid f + t) x (low f))) false ((hid f + t) * 2 ^ x) (2 ^ low f)
-    go true e = absurd (lt-irrefl (ones f) (subst (λ (n : ℕ). n < ones f) (e tt) h))
-    go false e = odd-sign (prec f) false (hid f + t) x (low f)
+normal f x t e = rw e (odd-sign (prec f) false (hid f + t) x (low f))
 
 field-value : (f : Format) (b x : ℕ) → b < top f → b / hid f ≡ suc x → suc x < ones f → HasValue (ofBits f b) false ((hid f + b % hid f) * 2 ^ x) (2 ^ low f)
 unfolding ofBits
-field-value f b x l e h = rw (lt-leb (top f) b l, mod-eq-of-lt l, e) (normal f x (b % hid f) h)
+field-value f b x l e h = rw (lt-leb (top f) b l, mod-eq-of-lt l, e) (normal f x (b % hid f) (ne-eqb (suc x) (ones f) (λ (g : suc x ≡ ones f). lt-irrefl (ones f) (subst (λ (n : ℕ). n < ones f) g h))))
 
 below-ones : (f : Format) → suc (low f) < ones f
 below-ones binary32 = lit< tt

@@ -19,7 +19,7 @@ use Rattle.floats.proofs.Laws.{value-whole, small-exact}
 
 -- ---- the sign
 
-neg-odd : (d : ℕ) (s : Bool) (q k l : ℕ) → neg (odd d s q k l) ≡ odd d (not s) q k l
+pub neg-odd : (d : ℕ) (s : Bool) (q k l : ℕ) → neg (odd d s q k l) ≡ odd d (not s) q k l
 unfolding neg odd
 neg-odd d s zero k l = refl
 neg-odd d s (suc q) k l = refl
@@ -32,7 +32,7 @@ neg-units f s q k = go (ltb (q * 2 ^ k) (2 ^ (low f + suc (emax f))))
     go true = neg-odd (suc (prec f)) s q k (low f)
     go false = refl
 
-neg-round : (f : Format) (s : Bool) (a c : ℕ) → neg (round f s a c) ≡ round f (not s) a c
+pub neg-round : (f : Format) (s : Bool) (a c : ℕ) → neg (round f s a c) ≡ round f (not s) a c
 neg-round f s a c = ap neg (round-is f s a c) ∙ neg-units f s _ _ ∙ sym (round-is f (not s) a c)
 
 -- ---- twice a value

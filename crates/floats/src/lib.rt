@@ -1,8 +1,12 @@
 // Rust's operations on floats that Rattle lacks. Each is total and exact for every input: a NaN, the infinities and both zeros included.
 ghost use mathlib.Core.Path.{_≡_};
 ghost use lib.IntN.{pos};
-ghost use lib.Ieee.{binary32, ofInt, toUnsigned, toSigned};
+ghost use mathlib.Core.Bool.{false, not};
+ghost use lib.Dec.{T};
+ghost use lib.Ieee.{binary32, binary64, isNan, ofFields, ofInt, toUnsigned, toSigned};
+ghost use Prim.Native.Nat.{_<_, _≤_};
 ghost use lib.Ieee.Scale.{finite};
+ghost use lib.Ieee.Nearest.{closest as nearestOf};
 ghost use Rattle.floats.specs.Floats.{absOf, clampOf, roundOf, narrowOf, ofSmall};
 
 // x.abs(), by clearing the sign bit.
@@ -139,4 +143,54 @@ pub fn round(x: f32) -> f32
         return whole;
     }
     x
+}
+
+// x as f32: the nearest f32, and the even one where two are as near.
+pub fn narrow(x: f64) -> f32
+    ensures { λ r. ⌜ r ≡ narrowOf x ⌝ }
+{
+    if x == x {
+        let bits = f64::to_bits(x);
+        let exponent = bits % 0x8000_0000_0000_0000 / 0x10_0000_0000_0000;
+        let size = narrow_size(exponent, bits % 0x10_0000_0000_0000);
+        if bits < 0x8000_0000_0000_0000 {
+            return size;
+        }
+        return -size;
+    }
+    0.0 / 0.0
+}
+
+// The same of the f64 that is not negative and has this exponent field and these digits below the leading one.
+fn narrow_size(exponent: u64, digits: u64) -> f32
+    requires { ⌜ (digits < 4503599627370496) × T (not (isNan (ofFields binary64 false exponent digits))) ⌝ }
+    ensures { λ r. ⌜ r ≡ narrowOf (ofFields binary64 false exponent digits) ⌝ }
+{
+    if exponent < 872 {
+        return 0.0;
+    }
+    if exponent < 897 {
+        return f32::from_bits(closest(0x10_0000_0000_0000 + digits, 1 << (926 - exponent)));
+    }
+    if exponent < 1151 {
+        let kept = closest(0x10_0000_0000_0000 + digits, 0x2000_0000);
+        return f32::from_bits(((exponent - 897) as u32) * 0x80_0000 + kept);
+    }
+    1.0 / 0.0
+}
+
+// a / b to the nearest whole number, and the even one where two are as near.
+fn closest(a: u64, b: u64) -> u32
+    requires { ⌜ (a < 9007199254740992) × (536870912 ≤ b) × (b ≤ 18014398509481984) ⌝ }
+    ensures { λ r. ⌜ r ≡ nearestOf a b ⌝ }
+{
+    let whole = (a / b) as u32;
+    let rest = a % b * 2;
+    if rest < b {
+        return whole;
+    }
+    if b < rest {
+        return whole + 1;
+    }
+    whole + whole % 2
 }
