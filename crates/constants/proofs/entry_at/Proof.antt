@@ -1,3 +1,4 @@
+-- Inside the table the code reads the entry itself; past it, 0.0 / 0.0 is the NaN that the definition has there.
 use mathlib.Core.Logic.{⊎-elim}
 use borrow.Author.Needs.{needs}
 use Rattle.constants.proofs.Tables.{past-rows, past-entries}
