@@ -1,34 +1,32 @@
 -- A valid state and its block: decoding what was encoded gives the state, and encoding what was decoded gives the bytes. So two
 -- states are the same when their 24 bytes are.
-use Prim.Native.Nat.{ℕ, zero, suc, _+_, _*_, _/_, _%_, _^_, _≤_, _<_}
+use Prim.Native.Nat.{ℕ, zero, suc, _+_, _^_, _≤_, _<_}
 use mathlib.Core.Path.{_≡_, refl, sym, ap, _∙_, subst}
-use mathlib.Core.Bool.{Bool, true, false, not, cond, _&&_, true≢false}
-use mathlib.Core.List.{List, [], _∷_, _++_}
+use mathlib.Core.Bool.{Bool, true, false, cond, _&&_}
+use mathlib.Core.List.{List, [], _∷_}
 use native.Mathlib.Omega.{arith}
 use native.Mathlib.Nat.{mod-eq-of-lt}
 use lib.Dec.{T, leb, eqb}
 use lib.IntN.{ℤ, pos, negsuc}
-use lib.ListN.{length, getD, take, drop}
+use lib.ListN.{length, take, drop}
 use lib.Seq.{drop-cons, take-add, take-all}
 use lib.Ieee.{Float, binary32, ofBits, toBits, fits}
 use lib.Ieee.Bits.{ofBits-toBits, toBits-lt}
 use lib.Ieee.Scale.{finite}
 use mir.Syntax.{w16}
-use mir.Val.{toZ, ofZ, SFits, boolByte}
+use mir.Val.{ofZ, SFits, boolByte}
 use mir.ValLaws.{toZ-ofZ, ofZ-fits}
-use borrow.Author.Tests.{le-leb, leb-true, eqb-true, eq-eqb}
-use Rattle.wire.specs.Wire.{Bytes, little, byteAt, numberAt, u16At, u32At, i16At, f32At, bytesOf, floatBytes, finiteBits}
+use borrow.Author.Tests.{leb-true, eqb-true, eq-eqb}
+use Rattle.wire.specs.Wire.{Bytes, little, byteAt, numberAt, u32At, i16At, f32At, bytesOf, floatBytes}
 use Rattle.wire.proofs.Laws.{little-bytesOf, bytesOf-numberAt}
 use Rattle.wire.proofs.Signed.{bytesOf-i16At}
 use Rattle.wire.proofs.Floats.{finiteBits-is, finite-no-nan, floatBytes-f32At}
 use Rattle.integrator.specs.declared.IntegratorState.{IntegratorState}
-use Rattle.control.specs.declared.FilterRegisters.{FilterRegisters}
 use Rattle.control.specs.declared.State.{State}
-use Rattle.control.specs.declared.Decoded.{Decoded}
 use Rattle.control.specs.declared.Decoded.the-variants.{Valid, Invalid}
 use Rattle.control.specs.Block.{finiteF32, finiteFloats, validOf, blockOf, fieldsOf, decodeOf, encodeOf}
 use Rattle.control.proofs.Block.{block-long}
-use Rattle.control.proofs.Valid.{Within, Ranges, valid-ranges, four, both}
+use Rattle.control.proofs.Valid.{Within, valid-ranges, four, both}
 
 -- ---- the floats of a valid state
 

@@ -1,20 +1,20 @@
 -- Every write and the reset keep a valid state valid, for every value; the starting value is valid; the displacement is -57 to 57 after every step.
-use Prim.Native.Nat.{ℕ, zero, suc, _+_, _*_, _/_, _%_, _≤_, _<_, min}
-use mathlib.Core.Path.{_≡_, refl, sym, ap, _∙_, subst}
+use Prim.Native.Nat.{ℕ, zero, suc, _+_, _*_, _/_, _≤_, min}
+use mathlib.Core.Path.{_≡_, refl, sym}
 use mathlib.Core.Bool.{Bool, true, false, cond, _&&_, true≢false}
 use native.Mathlib.Omega.{arith}
-use native.Mathlib.Nat.{div-le-of-le-mul, mul-comm, mod-lt, le-trans, le-of-eq}
-use lib.Dec.{leb, ltb, lit<}
+use native.Mathlib.Nat.{div-le-of-le-mul}
+use lib.Dec.{T, leb, ltb}
 use lib.IntN.{ℤ, pos, negsuc, negℤ, natAbs, _+ℤ_}
 use lib.Signed.{leZ, ltZ}
-use lib.Ieee.{Float, nan, inf, fin, binary32, up, down, lt, neg, ofInt, ofBits, toSigned, round, units, odd, size, span, climb, fits}
+use lib.Ieee.{Float, nan, inf, fin, binary32, up, down, lt, neg, ofInt, ofBits, toSigned, fits}
 use lib.Ieee.Scale.{finite}
+use lib.Ieee.Bits.{is-true}
 use borrow.Author.Tests.{le-leb, leb-true, ltb-false}
 use Rattle.floats.specs.Floats.{clampOf}
 use Rattle.integrator.specs.declared.IntegratorState.{IntegratorState}
-use Rattle.control.specs.declared.FilterRegisters.{FilterRegisters}
 use Rattle.control.specs.declared.State.{State}
-use Rattle.control.specs.Registers.{displacementOf, displacedOf, effectiveCutoffOf, startingState, writeCutoffLowOf, writeCutoffHighOf, writeSignalRoutingOf, writeModeAndVolumeOf}
+use Rattle.control.specs.Registers.{displacementOf, displacedOf, effectiveCutoffOf, startingState, withCutoff, withNibbles, writeCutoffLowOf, writeCutoffHighOf, writeSignalRoutingOf, writeModeAndVolumeOf}
 use Rattle.control.specs.Block.{validRegisters, finiteF32, finiteFloats, validOf}
 
 -- ---- the displacement
@@ -98,23 +98,23 @@ unfolding validOf validRegisters
 ranges-valid s k =
     rw (le-leb _ _ (k .cutoff), le-leb _ _ (k .base), k .displacement .low, k .displacement .high, le-leb _ _ (k .resonance), le-leb _ _ (k .routing), le-leb _ _ (k .mode), le-leb _ _ (k .volume)) (k .floats)
 
--- ---- the theorems
-
+-- The starting value, which the reset gives.
 pub starting-valid : validOf startingState ≡ true
 unfolding validOf validRegisters finiteFloats finiteF32 ofBits fits
 starting-valid = refl
 
-module _ (s : State) (v : ℕ) (h : validOf s ≡ true) where
+-- A state stays valid with other cutoff fields, nibbles or floats that are in range.
+module _ (s : State) (h : validOf s ≡ true) where
   k : Ranges s
   k = valid-ranges s h
 
-  pub low-valid : validOf (writeCutoffLowOf s v) ≡ true
-  low-valid =
-      ranges-valid (writeCutoffLowOf s v)
+  cutoff-valid : (cutoff : ℕ) (displacement : ℤ) (base : ℕ) (pending : Bool) → cutoff ≤ 2047 → Within displacement → base ≤ 2047 → validOf (withCutoff s cutoff displacement base pending) ≡ true
+  cutoff-valid cutoff displacement base pending c d b =
+      ranges-valid (withCutoff s cutoff displacement base pending)
       (record {
-        cutoff = omega arith;
-        base = k .cutoff;
-        displacement = k .displacement;
+        cutoff = c;
+        displacement = d;
+        base = b;
         resonance = k .resonance;
         routing = k .routing;
         mode = k .mode;
@@ -122,47 +122,42 @@ module _ (s : State) (v : ℕ) (h : validOf s ≡ true) where
         floats = k .floats;
       })
 
-  pub high-valid : validOf (writeCutoffHighOf s v) ≡ true
-  high-valid =
-      ranges-valid (writeCutoffHighOf s v)
-      (record {
-        cutoff = omega arith;
-        base = k .base;
-        displacement = displacement-within _;
-        resonance = k .resonance;
-        routing = k .routing;
-        mode = k .mode;
-        volume = k .volume;
-        floats = k .floats;
-      })
-
-  pub routing-valid : validOf (writeSignalRoutingOf s v) ≡ true
-  routing-valid =
-      ranges-valid (writeSignalRoutingOf s v)
+  nibbles-valid : (resonance routing mode volume : ℕ) → resonance ≤ 15 → routing ≤ 15 → mode ≤ 15 → volume ≤ 15 → validOf (withNibbles s resonance routing mode volume) ≡ true
+  nibbles-valid resonance routing mode volume r f m v =
+      ranges-valid (withNibbles s resonance routing mode volume)
       (record {
         cutoff = k .cutoff;
-        base = k .base;
         displacement = k .displacement;
-        resonance = omega arith;
-        routing = omega arith;
-        mode = k .mode;
-        volume = k .volume;
+        base = k .base;
+        resonance = r;
+        routing = f;
+        mode = m;
+        volume = v;
         floats = k .floats;
       })
 
-  pub mode-valid : validOf (writeModeAndVolumeOf s v) ≡ true
-  mode-valid =
-      ranges-valid (writeModeAndVolumeOf s v)
-      (record {
-        cutoff = k .cutoff;
-        base = k .base;
-        displacement = k .displacement;
-        resonance = k .resonance;
-        routing = k .routing;
-        mode = omega arith;
-        volume = omega arith;
-        floats = k .floats;
-      })
+  pub floats-valid : (i : IntegratorState) → finiteFloats i ≡ true → validOf (record { registers = s .registers; integrator = i }) ≡ true
+  unfolding validOf
+  floats-valid i f = rw (both (validRegisters (s .registers)) (finiteFloats (s .integrator)) h .0, f)
+
+  -- ---- the writes, for every value
+  module _ (v : ℕ) where
+    pub low-valid : validOf (writeCutoffLowOf s v) ≡ true
+    low-valid = cutoff-valid _ _ _ _ (omega arith) (k .displacement) (k .cutoff)
+
+    pub high-valid : validOf (writeCutoffHighOf s v) ≡ true
+    high-valid = cutoff-valid _ _ _ _ (omega arith) (displacement-within _) (k .base)
+
+    pub routing-valid : validOf (writeSignalRoutingOf s v) ≡ true
+    routing-valid = nibbles-valid _ _ _ _ (omega arith) (omega arith) (k .mode) (k .volume)
+
+    pub mode-valid : validOf (writeModeAndVolumeOf s v) ≡ true
+    mode-valid = nibbles-valid _ _ _ _ (k .resonance) (k .routing) (omega arith) (omega arith)
+
+-- A finite f32, from what an operation's result is known to be.
+pub finite-f32 : (x : Float) → T (fits binary32 x) → finite x ≡ true → finiteF32 x ≡ true
+unfolding finiteF32
+finite-f32 x f h = rw (is-true (fits binary32 x) f, h)
 
 -- The effective cutoff is a code, of every state.
 pub effective-within : (s : State) → effectiveCutoffOf s ≤ 2047

@@ -2,9 +2,9 @@
 -- filter.rs, in the Rust's order).
 use Prim.Native.Nat.{ℕ, _+_, _*_, _/_, _%_, _^_}
 use mathlib.Core.Bool.{Bool, true, false, cond}
-use lib.IntN.{ℤ, pos, negℤ, natAbs, _+ℤ_, _-ℤ_}
+use lib.IntN.{ℤ, pos, natAbs, _+ℤ_, _-ℤ_}
 use lib.Signed.{ltZ}
-use lib.Ieee.{Float, binary32, ofBits, ofInt, toSigned, mul, neg}
+use lib.Ieee.{binary32, ofBits, ofInt, toSigned, mul, neg}
 use Rattle.floats.specs.Floats.{roundOf, clampOf}
 use Rattle.constants.specs.Values.{FILTER-CUTOFF-STEP-CHARGE-GAIN, FILTER-CUTOFF-STEP-CHARGE-LIMIT-CODES}
 use Rattle.control.specs.declared.FilterRegisters.{FilterRegisters}
@@ -93,21 +93,17 @@ startingState =
 
 -- ---- the writes
 
--- Where a write of FC HI steps from: the base while a write of FC LO is pending, else the cutoff.
-abbrev pub previousCutoffOf : FilterRegisters → ℕ
-previousCutoffOf r = cond (r .«cutoff_low_pending») (r .«cutoff_write_base») (r .cutoff)
-
--- The base takes the cutoff at every write, pending or not. The displacement stays.
-abbrev pub writeCutoffLowOf : State → ℕ → State
-writeCutoffLowOf s value =
+-- The state with other cutoff fields.
+abbrev pub withCutoff : State → ℕ → ℤ → ℕ → Bool → State
+withCutoff s cutoff displacement base pending =
     let r = s .registers in
     record {
       registers =
           record {
-            «cutoff_write_base» = r .cutoff;
-            «cutoff_low_pending» = true;
-            cutoff = cutoffOf (cutoffHigh (r .cutoff)) (fcLow value);
-            «cutoff_dac_displacement_codes» = r .«cutoff_dac_displacement_codes»;
+            cutoff = cutoff;
+            «cutoff_dac_displacement_codes» = displacement;
+            «cutoff_write_base» = base;
+            «cutoff_low_pending» = pending;
             resonance = r .resonance;
             routing = r .routing;
             mode = r .mode;
@@ -115,59 +111,50 @@ writeCutoffLowOf s value =
           };
       integrator = s .integrator;
     }
+
+-- The state with other nibbles.
+abbrev pub withNibbles : State → ℕ → ℕ → ℕ → ℕ → State
+withNibbles s resonance routing mode volume =
+    let r = s .registers in
+    record {
+      registers =
+          record {
+            cutoff = r .cutoff;
+            «cutoff_dac_displacement_codes» = r .«cutoff_dac_displacement_codes»;
+            «cutoff_write_base» = r .«cutoff_write_base»;
+            «cutoff_low_pending» = r .«cutoff_low_pending»;
+            resonance = resonance;
+            routing = routing;
+            mode = mode;
+            volume = volume;
+          };
+      integrator = s .integrator;
+    }
+
+-- The base takes the cutoff at every write, pending or not. The displacement stays.
+abbrev pub writeCutoffLowOf : State → ℕ → State
+writeCutoffLowOf s value =
+    let r = s .registers in
+    let base = r .cutoff in
+    let pending = true in
+    let cutoff = cutoffOf (cutoffHigh (r .cutoff)) (fcLow value) in
+    withCutoff s cutoff (r .«cutoff_dac_displacement_codes») base pending
+
+-- Where a write of FC HI steps from: the base while a write of FC LO is pending, else the cutoff.
+abbrev pub previousCutoffOf : FilterRegisters → ℕ
+previousCutoffOf r = cond (r .«cutoff_low_pending») (r .«cutoff_write_base») (r .cutoff)
 
 -- The base stays.
 abbrev pub writeCutoffHighOf : State → ℕ → State
 writeCutoffHighOf s value =
     let r = s .registers in
     let next = cutoffOf (fcHigh value) (cutoffLow (r .cutoff)) in
-    record {
-      registers =
-          record {
-            «cutoff_dac_displacement_codes» = displacementOf (stepOf (previousCutoffOf r) next);
-            cutoff = next;
-            «cutoff_low_pending» = false;
-            «cutoff_write_base» = r .«cutoff_write_base»;
-            resonance = r .resonance;
-            routing = r .routing;
-            mode = r .mode;
-            volume = r .volume;
-          };
-      integrator = s .integrator;
-    }
+    let displacement = displacementOf (stepOf (previousCutoffOf r) next) in
+    let pending = false in
+    withCutoff s next displacement (r .«cutoff_write_base») pending
 
 abbrev pub writeSignalRoutingOf : State → ℕ → State
-writeSignalRoutingOf s value =
-    let r = s .registers in
-    record {
-      registers =
-          record {
-            routing = routingBits value;
-            resonance = resonanceBits value;
-            cutoff = r .cutoff;
-            «cutoff_dac_displacement_codes» = r .«cutoff_dac_displacement_codes»;
-            «cutoff_write_base» = r .«cutoff_write_base»;
-            «cutoff_low_pending» = r .«cutoff_low_pending»;
-            mode = r .mode;
-            volume = r .volume;
-          };
-      integrator = s .integrator;
-    }
+writeSignalRoutingOf s value = withNibbles s (resonanceBits value) (routingBits value) (s .registers .mode) (s .registers .volume)
 
 abbrev pub writeModeAndVolumeOf : State → ℕ → State
-writeModeAndVolumeOf s value =
-    let r = s .registers in
-    record {
-      registers =
-          record {
-            volume = volumeBits value;
-            mode = modeBits value;
-            cutoff = r .cutoff;
-            «cutoff_dac_displacement_codes» = r .«cutoff_dac_displacement_codes»;
-            «cutoff_write_base» = r .«cutoff_write_base»;
-            «cutoff_low_pending» = r .«cutoff_low_pending»;
-            resonance = r .resonance;
-            routing = r .routing;
-          };
-      integrator = s .integrator;
-    }
+writeModeAndVolumeOf s value = withNibbles s (s .registers .resonance) (s .registers .routing) (modeBits value) (volumeBits value)

@@ -6,7 +6,7 @@ use constants::FILTER_CUTOFF_STEP_CHARGE_GAIN;
 use constants::FILTER_CUTOFF_STEP_CHARGE_LIMIT_CODES;
 use integrator::IntegratorState;
 
-// The registers as written, and the cutoff DAC's displacement, which the last step of the cutoff left.
+// The registers as written, and the displacement that the last step of the cutoff left on its DAC, with where the next step starts.
 pub struct FilterRegisters {
     pub cutoff: u16,
     pub cutoff_dac_displacement_codes: i16,
@@ -31,7 +31,7 @@ pub enum Decoded {
 }
 
 // The DAC's displacement after a step of the cutoff code: a signed count of codes.
-pub fn displacement(step: i32) -> i16
+fn displacement(step: i32) -> i16
     ensures { λ r. ⌜ r ≡ displacementOf step ⌝ }
 {
     let limit = floats::of_i16(FILTER_CUTOFF_STEP_CHARGE_LIMIT_CODES);
@@ -79,11 +79,11 @@ impl FilterRegisters {
 
     pub const NIBBLE_MAX: u8 = 15;
 
-    pub const DISPLACEMENT_MIN: i16 = -57;
+    pub const DISPLACEMENT_MIN: i16 = -FILTER_CUTOFF_STEP_CHARGE_LIMIT_CODES;
 
-    pub const DISPLACEMENT_MAX: i16 = 57;
+    pub const DISPLACEMENT_MAX: i16 = FILTER_CUTOFF_STEP_CHARGE_LIMIT_CODES;
 
-    pub fn new() -> Self
+    fn new() -> Self
         ensures { λ r. ⌜ r ≡ startingRegisters ⌝ }
     {
         Self {
@@ -96,12 +96,6 @@ impl FilterRegisters {
             mode: 0,
             volume: 0,
         }
-    }
-
-    pub fn reset(self) -> Self
-        ensures { λ r. ⌜ r ≡ startingRegisters ⌝ }
-    {
-        FilterRegisters::new()
     }
 
     fn is_valid(self) -> bool

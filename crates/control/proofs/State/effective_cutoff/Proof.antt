@@ -1,4 +1,3 @@
-use mathlib.Core.Path.{_∙_, ap}
 use mir.Syntax.{w16}
 use mir.ValLaws.{toZ-ofZ}
 use borrow.Author.Needs.{needs}
