@@ -1,6 +1,6 @@
 -- What the decoder and the check ask: an event by its bytes, and the slices taken one by one.
-use Prim.Native.Nat.{ℕ, zero, suc, _+_, _-_, _*_, _≤_, _<_}
-use mathlib.Core.Path.{_≡_, refl, sym, ap, _∙_}
+use Prim.Native.Nat.{ℕ, suc, _+_, _-_, _*_, _≤_, _<_}
+use mathlib.Core.Path.{_≡_, refl}
 use mathlib.Core.Bool.{Bool, true, false, cond, _&&_}
 use mathlib.Core.List.{List, [], _∷_}
 use native.Mathlib.Omega.{arith}
@@ -48,7 +48,48 @@ sample-le (Mode v) = omega arith
 sample-le (Sample x e) = omega arith
 sample-le Reset = omega arith
 
--- ---- the tally, slice by slice
+-- ---- the slices from the event i on, as a loop takes them
+
+abbrev pub slicesFrom : List ℕ → ℕ → ℕ → List (List ℕ)
+slicesFrom s count i = slicesIn (count - i) (drop (8 + 12 * i) s)
+
+module _ (s : List ℕ) (count i : ℕ) where
+  slices-next : i < count → slicesFrom s count i ≡ take 12 (drop (8 + 12 * i) s) ∷ slicesFrom s count (i + 1)
+  unfolding slicesIn
+  slices-next h =
+      let m : count - i ≡ suc (count - (i + 1)) = omega arith in
+      let p : 8 + 12 * i + 12 ≡ 8 + 12 * (i + 1) = omega arith in
+      rw (m, drop-drop 12 (8 + 12 * i) s, p)
+
+  slices-end : count ≤ i → slicesFrom s count i ≡ []
+  unfolding slicesIn
+  slices-end h = let z : count - i ≡ 0 = omega arith in rw z
+
+  -- one event more is read
+  module _ (h : i < count) (e : Event) (r : eventAt s (8 + 12 * i) ≡ Readable e) where
+    pub all-next : allReadable (slicesFrom s count i) ≡ allReadable (slicesFrom s count (i + 1))
+    unfolding allReadable
+    all-next = rw (slices-next h, r)
+
+    pub events-next : eventsIn (slicesFrom s count i) ≡ e ∷ eventsIn (slicesFrom s count (i + 1))
+    unfolding eventsIn
+    events-next = rw (slices-next h, r)
+
+  -- one cannot be read
+  pub all-stop : i < count → eventAt s (8 + 12 * i) ≡ Unreadable → allReadable (slicesFrom s count i) ≡ false
+  unfolding allReadable
+  all-stop h r = rw (slices-next h, r)
+
+  -- none is left
+  pub all-end : count ≤ i → allReadable (slicesFrom s count i) ≡ true
+  unfolding allReadable
+  all-end h = rw (slices-end h)
+
+  pub events-end : count ≤ i → eventsIn (slicesFrom s count i) ≡ []
+  unfolding eventsIn
+  events-end h = rw (slices-end h)
+
+-- ---- the tally
 
 -- of slices that come after k samples
 unfoldable pub tallyFrom : ℕ → ℕ → List (List ℕ) → Checked
@@ -58,34 +99,18 @@ pub tally-start : (count : ℕ) (bs : List (List ℕ)) → tallyOf count bs ≡ 
 unfolding tallyOf tallyFrom
 tally-start count bs = rw zero-add
 
-module _ (count k : ℕ) (b : List ℕ) (bs : List (List ℕ)) where
-  tally-readable : (e : Event) → eventOf b ≡ Readable e → tallyFrom count k (b ∷ bs) ≡ tallyFrom count (k + sampleOf e) bs
-  unfolding tallyFrom allReadable eventsIn samplesOf
-  tally-readable e h = rw (h, add-assoc)
-
-  tally-unreadable : eventOf b ≡ Unreadable → tallyFrom count k (b ∷ bs) ≡ Refused Script
-  unfolding tallyFrom allReadable
-  tally-unreadable h = rw h
-
--- the slices from the event i on: one more is read, one cannot be read, none is left
 module _ (s : List ℕ) (count k i : ℕ) where
-  slices-next : i < count → slicesIn (count - i) (drop (8 + 12 * i) s) ≡ take 12 (drop (8 + 12 * i) s) ∷ slicesIn (count - (i + 1)) (drop (8 + 12 * (i + 1)) s)
-  unfolding slicesIn
-  slices-next h =
-      let m : count - i ≡ suc (count - (i + 1)) = omega arith in
-      let p : 8 + 12 * i + 12 ≡ 8 + 12 * (i + 1) = omega arith in
-      rw (m, drop-drop 12 (8 + 12 * i) s, p)
+  pub tally-more : i < count → (e : Event) → eventAt s (8 + 12 * i) ≡ Readable e → tallyFrom count k (slicesFrom s count i) ≡ tallyFrom count (k + sampleOf e) (slicesFrom s count (i + 1))
+  unfolding tallyFrom samplesOf
+  tally-more h e r = rw (all-next s count i h e r, events-next s count i h e r, add-assoc)
 
-  pub tally-more : i < count → (e : Event) → eventAt s (8 + 12 * i) ≡ Readable e
-      → tallyFrom count k (slicesIn (count - i) (drop (8 + 12 * i) s)) ≡ tallyFrom count (k + sampleOf e) (slicesIn (count - (i + 1)) (drop (8 + 12 * (i + 1)) s))
-  tally-more h e r = rw (slices-next h) (tally-readable count k _ _ e r)
+  pub tally-stop : i < count → eventAt s (8 + 12 * i) ≡ Unreadable → tallyFrom count k (slicesFrom s count i) ≡ Refused Script
+  unfolding tallyFrom
+  tally-stop h r = rw (all-stop s count i h r)
 
-  pub tally-stop : i < count → eventAt s (8 + 12 * i) ≡ Unreadable → tallyFrom count k (slicesIn (count - i) (drop (8 + 12 * i) s)) ≡ Refused Script
-  tally-stop h r = rw (slices-next h) (tally-unreadable count k _ _ r)
-
-  pub tally-end : count ≤ i → tallyFrom count k (slicesIn (count - i) (drop (8 + 12 * i) s)) ≡ WellFormed count k
-  unfolding slicesIn tallyFrom allReadable eventsIn samplesOf
-  tally-end h = let z : count - i ≡ 0 = omega arith in rw (z, add-zero)
+  pub tally-end : count ≤ i → tallyFrom count k (slicesFrom s count i) ≡ WellFormed count k
+  unfolding tallyFrom samplesOf
+  tally-end h = rw (all-end s count i h, events-end s count i h, add-zero)
 
 -- ---- the whole check
 

@@ -1,11 +1,11 @@
 -- Document 01's script: a header of two words, event count and offset, and 12 bytes an event.
 use Prim.Native.Nat.{ℕ, zero, suc, _+_, _*_}
 use mathlib.Core.Bool.{Bool, true, false, cond, _&&_}
-use mathlib.Core.List.{List, [], _∷_, _++_}
+use mathlib.Core.List.{List, [], _∷_}
 use lib.Dec.{leb, eqb}
 use lib.ListN.{length, take, drop}
 use lib.Ieee.{Float}
-use Rattle.wire.specs.Wire.{byteAt, u32At, f32At, bytesOf}
+use Rattle.wire.specs.Wire.{byteAt, u32At, f32At}
 use Rattle.answers.specs.declared.Answer.the-variants.{Script}
 use Rattle.script.specs.declared.Event.{Event}
 use Rattle.script.specs.declared.Event.the-variants.{CutoffLow, CutoffHigh, Routing, Mode, Sample, Reset}

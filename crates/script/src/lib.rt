@@ -105,10 +105,7 @@ pub fn check(script: &[u8]) -> Checked
     ensures { λ r. ⌜ r ≡ checkOf (now (script .entry)) ⌝ }
 {
     let count = wire::u32_at(script, 0) as usize;
-    if (count <= 65536)
-        & (wire::u32_at(script, 4) == 8)
-        & (script.len() == 8 + 12 * count)
-    {
+    if (count <= 65536) & (wire::u32_at(script, 4) == 8) & (script.len() == 8 + 12 * count) {
         return tally(script, count);
     }
     Checked::Refused(Answer::Script)

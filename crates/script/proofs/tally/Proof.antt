@@ -1,13 +1,13 @@
 -- The loop's invariant: the whole tally is that of the slices that are left, after the samples so far.
-use Prim.Native.Nat.{ℕ, _+_, _-_, _*_, _≤_}
-use mathlib.Core.Path.{_≡_, sym, ap, _∙_}
+use Prim.Native.Nat.{_-_, _≤_}
+use mathlib.Core.Path.{_≡_, sym, _∙_}
 use native.Mathlib.Omega.{arith}
 use native.Mathlib.Nat.{sub-zero}
 use lib.ListN.{drop}
 use denote.Ref.{now}
 use borrow.Author.Needs.{needs}
 use Rattle.script.specs.Script.{slicesIn, tallyOf}
-use Rattle.script.proofs.Laws.{sample-le, tallyFrom, tally-start, tally-more, tally-stop, tally-end}
+use Rattle.script.proofs.Laws.{sample-le, slicesFrom, tallyFrom, tally-start, tally-more, tally-stop, tally-end}
 use Rattle.script.proofs.tally.Statement.{statement}
 use Rattle.script.proofs.tally.Tie as tie
 
@@ -15,7 +15,7 @@ abbrev Inv-loop : tie.InvT-loop
 Inv-loop script count samples₀ i₀ samples i =
     (i ≤ count)
     × (samples ≤ i)
-    × (tallyOf count (slicesIn count (drop 8 script)) ≡ tallyFrom count samples (slicesIn (count - i) (drop (8 + 12 * i) script)))
+    × (tallyOf count (slicesIn count (drop 8 script)) ≡ tallyFrom count samples (slicesFrom script count i))
 
 abbrev μ-loop : tie.MeasureT-loop
 μ-loop script count samples₀ i₀ samples i = count - i
