@@ -9,7 +9,7 @@ use lib.Dec.{T, leb, eqb}
 use lib.ListN.{length, take, drop}
 use lib.Ieee as Ieee
 use lib.Ieee.{Float, nan, inf, fin, binary32, odd, ofFields, ofBits, toBits, nanBits, isNan, fits}
-use lib.Ieee.Bits.{ofBits-toBits, toBits-ofBits, toBits-lt, nanBits-is, nanBits-above, is-true}
+use lib.Ieee.Bits.{ofBits-toBits, toBits-ofBits, toBits-lt, nanBits-is, nanBits-above}
 use lib.Ieee.Compare.{differs-from-itself}
 use lib.Ieee.Scale.{finite}
 use borrow.Author.Tests.{lt-ltb, le-ltb, ltb-true, leb-true, eq-eqb, ne-eqb}

@@ -1,6 +1,7 @@
 -- The first of a run of numbers at which a test fails, and the first unusable entry of a run of entries.
 use Prim.Native.Nat.{ℕ, zero, suc, _+_, _*_}
-use mathlib.Core.Bool.{Bool, cond}
+use mathlib.Core.Bool.{Bool, true, cond, _&&_}
+use lib.Dec.{leb}
 use mathlib.Core.List.{List}
 use Rattle.wire.specs.Wire.{usableAt}
 
@@ -12,6 +13,15 @@ first ok (suc n) i = cond (ok i) (first ok n (suc i)) i
 -- Entry i of those that begin at the byte from is usable. One that does not lie whole in the list reads as 0, which is usable.
 unfoldable pub usableEntry : List ℕ → ℕ → ℕ → Bool
 usableEntry s from i = usableAt s (from + 4 * i)
+
+-- The test holds at each of the first n numbers.
+unfoldable pub every : (ℕ → Bool) → ℕ → Bool
+every ok zero = true
+every ok (suc n) = every ok n && ok n
+
+-- 64 of the entries that are left at p are there, and each is usable.
+unfoldable pub blockUsable : List ℕ → ℕ → ℕ → Bool
+blockUsable s p left = leb 64 left && every (usableEntry s p) 64
 
 -- The index of the first unusable one of count entries, and count where each is usable.
 abbrev pub firstUnusable : List ℕ → ℕ → ℕ → ℕ

@@ -68,6 +68,15 @@ finiteBits b = ltb (b % 2 ^ 31) 0x7f80_0000
 abbrev pub floatBytes : Float → List ℕ
 floatBytes x = bytesOf 4 (toBits binary32 x)
 
+-- Four words side by side, as a sample has them.
+abbrev pub rowBytes : ℕ → ℕ → ℕ → ℕ → List ℕ
+rowBytes a b c d = bytesOf 4 a ++ bytesOf 4 b ++ bytesOf 4 c ++ bytesOf 4 d
+
 -- The list with vs from p on where they fit, and the list as it is where they do not.
 unfoldable pub putAt : List ℕ → ℕ → List ℕ → List ℕ
 putAt s p vs = cond (leb (p + length vs) (length s)) (take p s ++ vs ++ drop (p + length vs) s) s
+
+-- The bytes of n rows one after another, row k being r k: the entries of a curve, the samples of an output.
+unfoldable pub rows : (ℕ → List ℕ) → ℕ → List ℕ
+rows r zero = []
+rows r (suc n) = rows r n ++ r n

@@ -1,14 +1,14 @@
 // Little-endian numbers and floats in lent bytes. Every public function is total: what is not there reads as 0,
 // and what does not fit is not written.
 ghost use mathlib.Core.Path.{_≡_};
-ghost use mathlib.Core.List.{[], _∷_, _++_};
+ghost use mathlib.Core.List.{[], _∷_};
 ghost use Prim.Native.Nat.{_+_, _*_, _-_, _<_, _≤_};
 ghost use lib.ListN.{length};
 ghost use lib.Ieee.{binary32, ofBits, toBits};
 ghost use mir.Syntax.{w16};
 ghost use mir.Val.{toZ, ofZ};
-ghost use Rattle.wire.specs.Wire.{little, byteAt, u16At, i16At, u32At, f32At, usable, usableAt, finiteBits, bytesOf, floatBytes, putAt};
-ghost use Rattle.wire.specs.First.{firstUnusable};
+ghost use Rattle.wire.specs.Wire.{little, byteAt, u16At, i16At, u32At, f32At, usable, usableAt, finiteBits, bytesOf, floatBytes, rowBytes, putAt};
+ghost use Rattle.wire.specs.First.{firstUnusable, blockUsable};
 
 // ---- numbers and their bits
 
@@ -146,14 +146,33 @@ pub fn usable_at(s: &[u8], p: usize) -> bool
 
 // ---- the first unusable entry
 
-// Of n entries that lie whole in the bytes.
+// Whether 64 entries are left at p, and each of the 64 is usable: code that the compiler can make vector code of.
+fn block_usable(s: &[u8], p: usize, left: usize) -> bool
+    requires { ⌜ p + 4 * left ≤ length (now s) ⌝ }
+    ensures { λ r. ⌜ r ≡ blockUsable (now (s .entry)) p left ⌝ }
+{
+    if left < 64 {
+        return false;
+    }
+    let mut all = true;
+    let mut j = 0;
+    while j < 64 {
+        all = all & usable(word(s, p + 4 * j));
+        j += 1;
+    }
+    all
+}
+
+// Of n entries that lie whole in the bytes: 64 at a time where they are usable, else one.
 fn scan(s: &[u8], from: usize, n: usize) -> usize
     requires { ⌜ from + 4 * n ≤ length (now s) ⌝ }
     ensures { λ r. ⌜ r ≡ firstUnusable (now (s .entry)) from n ⌝ }
 {
     let mut i = 0;
     while i < n {
-        if usable(word(s, from + 4 * i)) {
+        if block_usable(s, from + 4 * i, n - i) {
+            i += 64;
+        } else if usable(word(s, from + 4 * i)) {
             i += 1;
         } else {
             return i;
@@ -224,7 +243,7 @@ pub fn put_f32(s: &mut [u8], p: usize, x: f32)
 
 // Writes four words side by side, as a sample has them, where all sixteen bytes fit.
 pub fn put_row(s: &mut [u8], p: usize, a: u32, b: u32, c: u32, d: u32)
-    ensures { λ _. ⌜ now (s .exit) ≡ putAt (now (s .entry)) p (bytesOf 4 a ++ bytesOf 4 b ++ bytesOf 4 c ++ bytesOf 4 d) ⌝ }
+    ensures { λ _. ⌜ now (s .exit) ≡ putAt (now (s .entry)) p (rowBytes a b c d) ⌝ }
 {
     if 16 <= s.len() {
         if p <= s.len() - 16 {

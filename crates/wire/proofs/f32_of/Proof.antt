@@ -1,7 +1,7 @@
 use mathlib.Core.Path.{sym}
 use lib.Ieee.{div, ofBits}
-use Rattle.wire.proofs.Floats.{no-nan, nan-above}
 use borrow.Author.Needs.{needs}
+use Rattle.wire.proofs.Floats.{no-nan, nan-above}
 use Rattle.wire.proofs.f32_of.Statement.{statement}
 use Rattle.wire.proofs.f32_of.Tie as tie
 

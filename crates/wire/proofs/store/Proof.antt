@@ -1,10 +1,11 @@
+-- Four stores in a row are one write.
 use native.Mathlib.Omega.{arith}
 use native.Mathlib.Numerals.{add-one, add-two, add-three}
 use lib.ListN.{length-set}
 use denote.Ref.{now}
+use borrow.Author.Needs.{needs}
 use Rattle.wire.specs.Wire.{bytesOf}
 use Rattle.wire.proofs.Laws.{sets-putAt}
-use borrow.Author.Needs.{needs}
 use Rattle.wire.proofs.store.Statement.{statement}
 use Rattle.wire.proofs.store.Tie as tie
 
