@@ -51,14 +51,16 @@ f32At s p = ofBits binary32 (u32At s p)
 
 -- ---- patterns of an f32, with the sign's bit left out of account
 
--- A usable entry (document 01): finite and at most 1,024 in magnitude, whose bits are 0x4480_0000.
+-- A usable entry (document 01): finite and at most 1,024 in magnitude, by the bits, since 0x4480_0000 is 1,024. Magnitude.antt of proofs/
+-- shows the same of the float.
 unfoldable pub usable : ℕ → Bool
 usable b = leb (b % 2 ^ 31) 0x4480_0000
 
+-- The entry at p is usable.
 abbrev pub usableAt : List ℕ → ℕ → Bool
 usableAt s p = usable (u32At s p)
 
--- Finite: below the bits of the infinity.
+-- Finite: below the infinity's bits.
 unfoldable pub finiteBits : ℕ → Bool
 finiteBits b = ltb (b % 2 ^ 31) 0x7f80_0000
 

@@ -2,7 +2,7 @@
 // and what does not fit is not written.
 ghost use mathlib.Core.Path.{_≡_};
 ghost use mathlib.Core.List.{[], _∷_};
-ghost use Prim.Native.Nat.{_+_, _*_, _-_, _<_, _≤_};
+ghost use Prim.Native.Nat.{_+_, _*_, _≤_};
 ghost use lib.ListN.{length};
 ghost use lib.Ieee.{binary32, ofBits, toBits};
 ghost use mir.Syntax.{w16};
@@ -52,13 +52,14 @@ pub fn float_bits(x: f32) -> u32
     if x == x { f32::to_bits(x) } else { 0x7fc0_0000 }
 }
 
-// Finite and at most 1,024 in magnitude.
+// Whether a pattern is a usable entry's: finite and at most 1,024 in magnitude.
 pub fn usable(bits: u32) -> bool
     ensures { λ r. ⌜ r ≡ usable bits ⌝ }
 {
     bits % 0x8000_0000 <= 0x4480_0000
 }
 
+// Whether a pattern is a finite float's.
 pub fn finite_bits(bits: u32) -> bool
     ensures { λ r. ⌜ r ≡ finiteBits bits ⌝ }
 {
@@ -67,6 +68,7 @@ pub fn finite_bits(bits: u32) -> bool
 
 // ---- reading
 
+// The number of two bytes, and of four.
 fn join2(a: u8, b: u8) -> u16
     ensures { λ r. ⌜ r ≡ little (a ∷ b ∷ []) ⌝ }
 {
@@ -114,6 +116,7 @@ pub fn u16_at(s: &[u8], p: usize) -> u16
     0
 }
 
+// The same two bytes as a signed number.
 pub fn i16_at(s: &[u8], p: usize) -> i16
     ensures { λ r. ⌜ r ≡ i16At (now (s .entry)) p ⌝ }
 {
@@ -132,12 +135,14 @@ pub fn u32_at(s: &[u8], p: usize) -> u32
     0
 }
 
+// The same four bytes as a float, whatever their pattern.
 pub fn f32_at(s: &[u8], p: usize) -> f32
     ensures { λ r. ⌜ r ≡ f32At (now (s .entry)) p ⌝ }
 {
     f32_of(u32_at(s, p))
 }
 
+// Whether the entry at a place is usable. One that is not all there reads as 0, and is.
 pub fn usable_at(s: &[u8], p: usize) -> bool
     ensures { λ r. ⌜ r ≡ usableAt (now (s .entry)) p ⌝ }
 {
@@ -146,7 +151,7 @@ pub fn usable_at(s: &[u8], p: usize) -> bool
 
 // ---- the first unusable entry
 
-// Whether 64 entries are left at p, and each of the 64 is usable: code that the compiler can make vector code of.
+// Whether 64 entries are left at p, and each of the 64 is usable. With no way out of the loop the compiler makes vector code of it.
 fn block_usable(s: &[u8], p: usize, left: usize) -> bool
     requires { ⌜ p + 4 * left ≤ length (now s) ⌝ }
     ensures { λ r. ⌜ r ≡ blockUsable (now (s .entry)) p left ⌝ }
@@ -199,7 +204,7 @@ pub fn first_unusable(s: &[u8], from: usize, count: usize) -> usize
 
 // ---- writing
 
-// Four bytes where they fit: one store.
+// Four bytes where there is room: one store.
 fn store(s: &mut [u8], p: usize, v: u32)
     requires { ⌜ p + 4 ≤ length (now s) ⌝ }
     ensures { λ _. ⌜ now (s .exit) ≡ putAt (now (s .entry)) p (bytesOf 4 v) ⌝ }
@@ -210,7 +215,7 @@ fn store(s: &mut [u8], p: usize, v: u32)
     s[p + 3] = (v / 256 / 256 / 256 % 256) as u8;
 }
 
-// Writes bytes at a place where they fit.
+// Writes bytes at a place, where they fit.
 pub fn put(dst: &mut [u8], at: usize, src: &[u8])
     ensures { λ _. ⌜ now (dst .exit) ≡ putAt (now (dst .entry)) at (now (src .entry)) ⌝ }
 {
@@ -225,6 +230,7 @@ pub fn put(dst: &mut [u8], at: usize, src: &[u8])
     }
 }
 
+// Writes four bytes at a place, where they fit.
 pub fn put_u32(s: &mut [u8], p: usize, v: u32)
     ensures { λ _. ⌜ now (s .exit) ≡ putAt (now (s .entry)) p (bytesOf 4 v) ⌝ }
 {
@@ -235,13 +241,14 @@ pub fn put_u32(s: &mut [u8], p: usize, v: u32)
     }
 }
 
+// The same of a float's bits.
 pub fn put_f32(s: &mut [u8], p: usize, x: f32)
     ensures { λ _. ⌜ now (s .exit) ≡ putAt (now (s .entry)) p (floatBytes x) ⌝ }
 {
     put_u32(s, p, float_bits(x));
 }
 
-// Writes four words side by side, as a sample has them, where all sixteen bytes fit.
+// Writes four words side by side, as a sample has them, where the sixteen bytes fit.
 pub fn put_row(s: &mut [u8], p: usize, a: u32, b: u32, c: u32, d: u32)
     ensures { λ _. ⌜ now (s .exit) ≡ putAt (now (s .entry)) p (rowBytes a b c d) ⌝ }
 {

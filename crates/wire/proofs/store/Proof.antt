@@ -47,7 +47,7 @@ same-length c = search needs
 
 returns : tie.Need-returns
 unfolding bytesOf
-returns c = rw (add-one, add-two, add-three) (sets-putAt (now (c .args .s)) (c .args .p) (bytesOf 4 (c .args .v)) (c .pre))
+returns c = simp (add-one, add-two, add-three) (sets-putAt (now (c .args .s)) (c .args .p) (bytesOf 4 (c .args .v)) (c .pre))
 
 pub store-spec : {M : Type 1} → statement M
 store-spec =
