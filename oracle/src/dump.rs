@@ -19,6 +19,7 @@ fn main() {
     let bundle = bundle(&coefficients, &surface);
     write("bundle", &bundle);
 
+    save("constants", constants(&coefficients[0]));
     save("rounding", rounding(&mut filter));
     save("round", round());
     save("truncate", truncate());
@@ -28,6 +29,8 @@ fn main() {
     save("to_f32", to_f32());
     save("narrow", narrow());
     save("words", words(&bundle));
+    save("reads", reads());
+    save("puts", puts());
 
     save("saturate", saturate());
     save("advance", advance());
@@ -227,6 +230,131 @@ fn directional_power(mode_index: usize, cutoff: u16, displacement_codes: i16) ->
     directional_gain.powf(displacement)
 }
 
+// ---- Constants
+
+/// The f32 numbers that stand alone, in the order of the crate `constants`.
+const SCALARS: [f32; 73] = [
+    SID_ANALOGUE_MIN_VOLTS,
+    SID_ANALOGUE_MAX_VOLTS,
+    SID_VOICE_BASE_VOLTS,
+    SID_VOICE_AC_VOLTS,
+    SID_VOICE_ENVELOPE_BIAS_VOLTS,
+    SID_MIXER_VOICE_AC_GAIN,
+    SID_MIXER_CONDUCTANCE_PER_INPUT,
+    SID_MIXER_TWO_VOICE_ACTIVITY_LOAD,
+    SID_MIXER_TWO_VOICE_VOLUME_GAIN_AT_CODE_9,
+    SID_MIXER_TWO_VOICE_VOLUME_GAIN_PER_CODE,
+    SID_MIXER_THREE_VOICE_ACTIVITY_LIFT,
+    SID_VOLUME_CONDUCTANCE_DIVISOR,
+    SID_VOLUME_DAC_CONDUCTANCE_SCALE,
+    SID_VOLUME_DAC_COMMON_COMPRESSION,
+    SID_OUTPUT_SCALE,
+    SID_VOLUME_OUTPUT_CENTRE,
+    SID_VOLUME_OUTPUT_GAIN,
+    SID_VOLUME_DAC_BIAS_FULL,
+    SID_VOLUME_TRANSITION_FAST_CHARGE_FULL_SCALE,
+    SID_VOLUME_TRANSITION_SLOW_CHARGE_FULL_SCALE,
+    SID_ANALOGUE_MAX_CONDUCTANCE,
+    SID_ANALOGUE_QUIESCENT_VOLTS,
+    SID_RESONANCE_OUTPUT_LIFT,
+    FILTER_INPUT_GAIN,
+    FILTER_OUTPUT_GAIN,
+    FILTER_LOWPASS_GAIN_AT_MID_RESONANCE,
+    FILTER_LOWPASS_GAIN_RESONANCE_DROP,
+    FILTER_LOWPASS_OUTPUT_TRIM,
+    FILTER_BANDPASS_GAIN_ZERO_CUTOFF,
+    FILTER_BANDPASS_GAIN_CUTOFF_SLOPE,
+    FILTER_BANDPASS_GAIN_RESONANCE_DROP,
+    FILTER_BANDPASS_GAIN_TRIM_ZERO,
+    FILTER_BANDPASS_GAIN_TRIM_CUTOFF_SLOPE,
+    FILTER_BANDPASS_OUTPUT_TRIM,
+    FILTER_LOW_BAND_GAIN_ZERO_CUTOFF,
+    FILTER_LOW_BAND_GAIN_CUTOFF_SLOPE,
+    FILTER_LOW_BAND_GAIN_RESONANCE_DROP,
+    FILTER_LOW_BAND_LOW_RESONANCE_LIFT,
+    FILTER_BYPASS_ACTIVITY_LINEAR_GAIN,
+    FILTER_BYPASS_ACTIVITY_QUADRATIC_GAIN,
+    FILTER_BANDPASS_LOW_COUPLING_MAX,
+    FILTER_BANDPASS_LOW_COUPLING_KNEE,
+    FILTER_HIGHPASS_LOW_COUPLING_ZERO,
+    FILTER_HIGHPASS_LOW_COUPLING_DECAY,
+    FILTER_HIGHPASS_GAIN_ZERO,
+    FILTER_HIGHPASS_GAIN_CUTOFF_SLOPE,
+    FILTER_HIGHPASS_GAIN_RESONANCE_DROP,
+    FILTER_HIGHPASS_GAIN_CUTOFF_RESONANCE_DROP,
+    FILTER_HIGHPASS_RESONANCE_TRIM_C0,
+    FILTER_HIGHPASS_RESONANCE_TRIM_C1,
+    FILTER_HIGHPASS_RESONANCE_TRIM_C2,
+    FILTER_HIGHPASS_RESONANCE_TRIM_C3,
+    FILTER_SOURCE_ENERGY_TRACKING,
+    FILTER_SOURCE_ENERGY_KNEE,
+    FILTER_SOURCE_RESONANCE_FLOOR,
+    FILTER_CUTOFF_STEP_CHARGE_GAIN,
+    COMBINED_OUTPUT_COMMON_MODE,
+    PURE_BYPASS_OUTPUT_COMMON_MODE,
+    FILTER_LOWPASS_COMMON_MODE_FC_0,
+    FILTER_LOWPASS_COMMON_MODE_FC_2047,
+    FILTER_BANDPASS_COMMON_MODE_FC_0,
+    FILTER_BANDPASS_COMMON_MODE_FC_2047,
+    FILTER_HIGHPASS_COMMON_MODE_FC_0,
+    FILTER_HIGHPASS_COMMON_MODE_FC_2047,
+    FILTER_INPUT_COMMON_MODE_ONE_VOICE,
+    PURE_BYPASS_ATTACK_COMMON_MODE_ONE_VOICE,
+    PURE_BYPASS_ATTACK_COMMON_MODE_TWO_VOICE_DELTA,
+    PURE_BYPASS_ATTACK_COMMON_MODE_THREE_VOICE_DELTA,
+    PURE_BYPASS_ATTACK_COMMON_MODE_SCALE,
+    PURE_BYPASS_ATTACK_WAVEFORM_STATE_COUPLING,
+    PURE_PULSE_GATE_RELAXATION_CHARGE,
+    PURE_SAW_MIXER_LINEAR,
+    PURE_SAW_MIXER_QUADRATIC,
+];
+
+/// The f32 tables in that order. The drives are those of every code, the last one repeated; a single row stands as one.
+fn tables_of(coefficients: &FilterCoefficients) -> Vec<Vec<Vec<f32>>> {
+    let drive = |drive: [f32; FILTER_OPERATING_BINS]| vec![[&drive[..], &drive[FILTER_OPERATING_BINS - 1..]].concat()];
+    fn rows<const N: usize>(table: &[[f32; N]]) -> Vec<Vec<f32>> {
+        table.iter().map(|row| row.to_vec()).collect()
+    }
+    vec![
+        rows(&[SCALARS]),
+        rows(&[SID_VOLUME_DAC_BRANCH_WEIGHTS]),
+        rows(&[FILTER_MODE_POLARITY]),
+        rows(&[PURE_BYPASS_ATTACK_SCALE_BY_SELECTION]),
+        rows(&SID_FROZEN_DAC_POLYNOMIAL),
+        drive(coefficients.input_drive),
+        drive(coefficients.feedback_drive),
+        rows(&FILTER_SINGLE_MODE_CUTOFF_GAIN),
+        rows(&FILTER_SINGLE_MODE_RESONANCE_GAIN),
+        rows(&FILTER_DIRECTIONAL_LOADING_GAIN),
+        rows(&FILTER_SYMMETRIC_LOADING_GAIN),
+    ]
+}
+
+/// Table, row, column, and the entry as two words. Past an end of the last four tables there is a NaN. Tables 11 to 13 are the f64
+/// numbers, the counts and the displacement's limit.
+fn constants(coefficients: &FilterCoefficients) -> Vec<[u32; 5]> {
+    let mut records = vec![];
+    for (table, rows) in tables_of(coefficients).iter().enumerate() {
+        for (row, entries) in rows.iter().enumerate() {
+            records.extend(entries.iter().enumerate().map(|(column, &entry)| [table as u32, row as u32, column as u32, word(entry), 0]));
+        }
+        if rows.len() == 3 {
+            let width = rows[0].len() as u32;
+            let past = [(0, width), (2, width), (3, 0), (3, width - 1), (u32::MAX, 0), (0, u32::MAX)];
+            records.extend(past.map(|(row, column)| [table as u32, row, column, word(f32::NAN), 0]));
+        }
+    }
+    for (column, entry) in [SID_FILTER_DAC_TWO_R_OVER_R, SID_DAC_LEAKAGE].into_iter().enumerate() {
+        let [low, high] = words_f64(entry);
+        records.push([11, 0, column as u32, low, high]);
+    }
+    for (column, entry) in [SID_ANALOGUE_LOAD_BINS, FILTER_SUBSTEPS, FILTER_OPERATING_BINS].into_iter().enumerate() {
+        records.push([12, 0, column as u32, entry as u32, 0]);
+    }
+    records.push([13, 0, 0, FILTER_CUTOFF_STEP_CHARGE_LIMIT_CODES as u32, 0]);
+    records
+}
+
 // ---- Rust's std and the words of the bundle
 
 /// Every step: the product rounded, and the displacement that a write of cutoff high leaves.
@@ -252,7 +380,7 @@ fn round() -> Vec<[u32; 2]> {
     inputs.into_iter().map(|x| [word(x), word(x.round())]).collect()
 }
 
-fn truncate() -> Vec<[u32; 3]> {
+fn truncate() -> Vec<[u32; 4]> {
     let mut random = Random::of("truncate");
     let mut inputs = inputs(&mut random, 2000);
     inputs.extend((0..1000).map(|_| random.between(0.0, 2047.0)));
@@ -260,7 +388,7 @@ fn truncate() -> Vec<[u32; 3]> {
         .into_iter()
         .map(|x| {
             let [low, high] = halves((x as usize) as u64);
-            [word(x), low, high]
+            [word(x), low, high, i32::from(x as i16) as u32]
         })
         .collect()
 }
@@ -302,13 +430,13 @@ fn finite() -> Vec<[u32; 2]> {
     inputs(&mut Random::of("finite"), 2000).into_iter().map(|x| [word(x), x.is_finite().into()]).collect()
 }
 
-/// Kind 0 is u16, 1 i16, 2 i32, 3 usize up to 2^24.
+/// Kind 0 is u16, 1 i16, 2 i32, 3 usize, which the crate `floats` holds at 2^24 from there on.
 fn to_f32() -> Vec<[u32; 3]> {
     let mut random = Random::of("to_f32");
     let from_u16 = |x: u16| [0, x.into(), word(x as f32)];
     let from_i16 = |x: i16| [1, x as u32, word(x as f32)];
     let from_i32 = |x: i32| [2, x as u32, word(x as f32)];
-    let from_usize = |x: usize| [3, x as u32, word(x as f32)];
+    let from_usize = |x: usize| [3, x as u32, word(x.min(1 << 24) as f32)];
     let mut records = vec![from_u16(0), from_u16(2047), from_u16(u16::MAX)];
     records.extend((0..1000).map(|_| from_u16(random.bits() as u16)));
     records.extend([0, 1, -1, 57, -57, i16::MAX, i16::MIN].map(from_i16));
@@ -319,13 +447,13 @@ fn to_f32() -> Vec<[u32; 3]> {
         records.extend([-3, -2, -1, 0, 1, 2].map(|near| from_i32(-(1 << power) + near)));
     }
     records.extend((0..1000).map(|_| from_i32((random.bits() as i32) >> random.below(24))));
-    records.extend([0, 1, 15, 2047, (1 << 24) - 1, 1 << 24].map(from_usize));
+    records.extend([0, 1, 15, 2047, (1 << 24) - 1, 1 << 24, (1 << 24) + 1, u32::MAX as usize].map(from_usize));
     records.extend((0..1000).map(|_| from_usize((random.bits() as usize % (1 << 24)) >> random.below(24))));
     records
 }
 
-/// f64 to f32: ties and their neighbours from subnormal to the largest, then any bits and moderate ones.
-fn narrow() -> Vec<[u32; 3]> {
+/// f64 to f32, and whether it is finite: ties and their neighbours from subnormal to the largest, then any bits and moderate ones.
+fn narrow() -> Vec<[u32; 4]> {
     let mut random = Random::of("narrow");
     let top = f32::MAX as f64;
     let mut inputs = vec![0.0, f64::from_bits(1), f64::MIN_POSITIVE, 1.0, 0.1, top, 1.0e39, f64::MAX, f64::INFINITY, f64::NAN];
@@ -346,12 +474,18 @@ fn narrow() -> Vec<[u32; 3]> {
         .flat_map(|x| [x, -x])
         .map(|x| {
             let [low, high] = words_f64(x);
-            [low, high, word(x as f32)]
+            [low, high, word(x as f32), x.is_finite().into()]
         })
         .collect()
 }
 
-/// Byte place, the word there, and whether it is usable as an entry: finite and at most 1,024 in magnitude.
+/// Document 01's usable entry: finite and at most 1,024 in magnitude.
+fn usable(bits: u32) -> bool {
+    let entry = f32::from_bits(bits);
+    entry.is_finite() && entry.abs() <= 1024.0
+}
+
+/// Byte place, the word there, and whether it is usable as an entry.
 fn words(bundle: &[u32]) -> Vec<[u32; 3]> {
     let mut random = Random::of("words");
     let mut places: Vec<u32> = (0..14).map(|index| 4 * index).collect();
@@ -364,8 +498,83 @@ fn words(bundle: &[u32]) -> Vec<[u32; 3]> {
         .into_iter()
         .map(|place| {
             let bits = bundle[place as usize / 4];
-            let entry = f32::from_bits(bits);
-            [place, bits, (entry.is_finite() && entry.abs() <= 1024.0).into()]
+            [place, bits, usable(bits).into()]
+        })
+        .collect()
+}
+
+// ---- Lent bytes, with the answers that the crate `wire` states
+
+/// Twelve bytes of which the first `length` are lent, and the byte place that is asked for.
+struct Lent {
+    bytes: [u8; 12],
+    length: usize,
+    place: usize,
+}
+
+impl Lent {
+    fn random(random: &mut Random) -> Self {
+        let words: [u32; 3] = std::array::from_fn(|_| match random.below(3) {
+            0 => random.bits() as u32,
+            1 => random.between(-1100.0, 1100.0).to_bits(),
+            _ => [0x7fc0_0000, 0xffff_ffff, 0x7f80_0001, 0x7f80_0000, 0xff80_0000, 0x4480_0000, 0x4480_0001, 0x8000_0000][random.below(8) as usize],
+        });
+        let bytes = words.map(u32::to_le_bytes).as_flattened().try_into().expect("twelve bytes");
+        let place = match random.below(8) {
+            0 => usize::MAX - random.below(13) as usize,
+            _ => random.below(14) as usize,
+        };
+        Lent { bytes, length: random.below(13) as usize, place }
+    }
+
+    /// The N bytes at a place, where all of them are lent.
+    fn at<const N: usize>(&self, place: usize) -> Option<[u8; N]> {
+        self.bytes[..self.length].get(place..)?.first_chunk().copied()
+    }
+
+    fn words(&self) -> [u32; 3] {
+        std::array::from_fn(|index| u32::from_le_bytes(self.bytes[4 * index..][..4].try_into().expect("four bytes")))
+    }
+}
+
+/// What is read from lent bytes: what is not there is 0. The call is 0 byte, 1 u16, 2 i16, 3 u32, 4 f32, 5 usable entry, 6 the index
+/// of the first unusable one of `count` entries from the place on.
+fn reads() -> Vec<[u32; 9]> {
+    let mut random = Random::of("reads");
+    (0..3000)
+        .map(|_| {
+            let lent = Lent::random(&mut random);
+            let call = random.below(7);
+            let count = [random.below(5), u32::MAX][usize::from(random.below(8) == 0)];
+            let word_at = |place: usize| lent.at(place).map_or(0, u32::from_le_bytes);
+            let answer = match call {
+                0 => lent.at(lent.place).map_or(0, |[byte]| byte.into()),
+                1 => lent.at(lent.place).map_or(0, |pair| u16::from_le_bytes(pair).into()),
+                2 => lent.at(lent.place).map_or(0, |pair| i32::from(i16::from_le_bytes(pair)) as u32),
+                3 => word_at(lent.place),
+                4 => word(f32::from_bits(word_at(lent.place))),
+                5 => usable(word_at(lent.place)).into(),
+                _ => (0..count.min(4)).find(|index| !usable(word_at(lent.place.saturating_add(4 * *index as usize)))).unwrap_or(count),
+            };
+            let [low, high] = halves(lent.place as u64);
+            joined([&[call, lent.length as u32, low, high, count], &lent.words(), &[answer]])
+        })
+        .collect()
+}
+
+/// Length, place, a word to be written there, the twelve bytes before and after: a word that does not fit is not written.
+fn puts() -> Vec<[u32; 10]> {
+    let mut random = Random::of("puts");
+    (0..1000)
+        .map(|_| {
+            let mut lent = Lent::random(&mut random);
+            let before = lent.words();
+            let value = random.bits() as u32;
+            if let Some([_, _, _, _]) = lent.at(lent.place) {
+                lent.bytes[lent.place..][..4].copy_from_slice(&value.to_le_bytes());
+            }
+            let [low, high] = halves(lent.place as u64);
+            joined([&[lent.length as u32, low, high, value], &before, &lent.words()])
         })
         .collect()
 }
