@@ -1,0 +1,83 @@
+-- Laws of `first`, and of the entries that do not lie whole in the bytes.
+use Prim.Native.Nat.{ℕ, zero, suc, _+_, _-_, _*_, _≤_, _<_}
+use mathlib.Core.Path.{_≡_, refl, ap, sym, subst, _∙_}
+use mathlib.Core.Bool.{Bool, true, false, cond}
+use mathlib.Core.Logic.{⊎-elim}
+use mathlib.Core.List.{List}
+use native.Mathlib.Omega.{arith}
+use native.Mathlib.Nat.{le-antisymm, eq-or-lt-of-le}
+use lib.Dec.{leb}
+use lib.ListN.{length}
+use borrow.Author.Tests.{leb-true, leb-false}
+use Rattle.wire.specs.Wire.{usable}
+use Rattle.wire.specs.First.{first, usableEntry, firstUnusable}
+use Rattle.wire.proofs.Laws.{le-or-lt, numberAt-out}
+
+-- it lies in the run or at its end
+pub first-ge : (ok : ℕ → Bool) (n i : ℕ) → i ≤ first ok n i
+unfolding first
+first-ge ok zero i = omega arith
+first-ge ok (suc n) i = go (ok i) (first-ge ok n (suc i))
+  where
+    go : (b : Bool) → suc i ≤ first ok n (suc i) → i ≤ cond b (first ok n (suc i)) i
+    go true h = omega arith
+    go false h = omega arith
+
+pub first-le : (ok : ℕ → Bool) (n i : ℕ) → first ok n i ≤ i + n
+unfolding first
+first-le ok zero i = omega arith
+first-le ok (suc n) i = go (ok i) (first-le ok n (suc i))
+  where
+    go : (b : Bool) → first ok n (suc i) ≤ suc i + n → cond b (first ok n (suc i)) i ≤ i + suc n
+    go true h = omega arith
+    go false h = omega arith
+
+-- the test holds before it
+pub first-before : (ok : ℕ → Bool) (n i k : ℕ) → i ≤ k → k < first ok n i → ok k ≡ true
+unfolding first
+first-before ok zero i k g l = absurd (omega arith)
+first-before ok (suc n) i k g l = go (ok i) (leb k i) refl refl l (first-before ok n (suc i) k)
+  where
+    go : (b b′ : Bool) → ok i ≡ b → leb k i ≡ b′ → k < cond b (first ok n (suc i)) i → (suc i ≤ k → k < first ok n (suc i) → ok k ≡ true) → ok k ≡ true
+    go true true e w h r = subst (λ (j : ℕ). ok j ≡ true) (le-antisymm g (leb-true k i w)) e
+    go true false e w h r = r (omega (arith, leb-false k i w)) h
+    go false b′ e w h r = absurd (omega arith)
+
+-- and fails at it, where it lies in the run
+pub first-fails : (ok : ℕ → Bool) (n i : ℕ) → first ok n i < i + n → ok (first ok n i) ≡ false
+unfolding first
+first-fails ok zero i l = absurd (omega arith)
+first-fails ok (suc n) i l = go (ok i) refl l (first-fails ok n (suc i))
+  where
+    go : (b : Bool) → ok i ≡ b → cond b (first ok n (suc i)) i < i + suc n → (first ok n (suc i) < suc i + n → ok (first ok n (suc i)) ≡ false) → ok (cond b (first ok n (suc i)) i) ≡ false
+    go true e h r = r (omega arith)
+    go false e h r = e
+
+-- It is the one number of the run, or its end, of which the two hold.
+pub first-is : (ok : ℕ → Bool) (n i r : ℕ) → i ≤ r → r ≤ i + n → ((k : ℕ) → i ≤ k → k < r → ok k ≡ true) → (r < i + n → ok r ≡ false) → first ok n i ≡ r
+unfolding first
+first-is ok zero i r g l b f = omega arith
+first-is ok (suc n) i r g l b f =
+    ⊎-elim
+    (λ (e : i ≡ r). rw (ap ok e ∙ f (omega arith)) e)
+    (λ (h : i < r). rw (b i (omega arith) h) (first-is ok n (suc i) r h (omega arith) (λ k m. b k (omega arith)) (λ m. f (omega arith))))
+    (eq-or-lt-of-le g)
+
+-- An entry that does not lie whole in the bytes is usable.
+pub usable-past : (s : List ℕ) (from i : ℕ) → length s < from + 4 * i + 4 → usableEntry s from i ≡ true
+unfolding usableEntry usable
+usable-past s from i h = rw (numberAt-out 4 s (from + 4 * i) h)
+
+-- Of m entries, those past the first n do not lie whole in s.
+module _ (s : List ℕ) (from n m : ℕ) (h : length s < from + 4 * n + 4) (l : n ≤ m) where
+  pub found-inside : firstUnusable s from n < n → firstUnusable s from m ≡ firstUnusable s from n
+  found-inside f =
+      let ok = usableEntry s from in
+      first-is ok m 0 (first ok n 0) (omega arith) (omega arith) (first-before ok n 0) (λ _. first-fails ok n 0 (omega arith))
+
+  pub none-inside : n ≤ firstUnusable s from n → firstUnusable s from m ≡ m
+  none-inside f =
+      let ok = usableEntry s from in
+      first-is ok m 0 m (omega arith) (omega arith)
+      (λ (k : ℕ) g u. ⊎-elim (λ (a : n ≤ k). usable-past s from k (omega arith)) (λ (b : k < n). first-before ok n 0 k g (omega arith)) (le-or-lt n k))
+      (λ u. absurd (omega arith))

@@ -1,0 +1,236 @@
+-- Laws of little-endian bytes over the width n: a number and its bytes, reading, writing.
+use Prim.Native.Nat.{ℕ, zero, suc, _+_, _-_, _*_, _/_, _%_, _^_, _≤_, _<_}
+use mathlib.Core.Path.{_≡_, refl, ap, sym, subst, _∙_}
+use mathlib.Core.Logic.{_⊎_, inl, inr, ⊎-elim}
+use mathlib.Core.Bool.{Bool, true, false}
+use mathlib.Core.List.{List, [], _∷_, _++_, append-assoc, append-nil}
+use native.Mathlib.Omega.{arith}
+use native.Mathlib.Numerals.{add-one}
+use native.Mathlib.Nat.{add-assoc, add-zero, pow-suc, mod-one, mod-eq-of-lt, one-le-pow}
+use lib.Arith.{mod-mul}
+use lib.Dec.{leb, lit<}
+use lib.ListN.{length, getD, take, drop, length-append, length-take, length-drop, take-append-drop, drop-of-length-le, List·getD-eq-default}
+use lib.Seq.{length-take-le, take-all, drop-cons, take-append-le, drop-append-le, drop-append-add, take-at, drop-at, drop-drop, getD-take, getD-drop, sets, sets-eq, paste, take-length}
+use borrow.Author.Tests.{le-leb, lt-leb, leb-true, leb-false}
+use Rattle.wire.specs.Wire.{Bytes, little, bytesOf, byteAt, numberAt, putAt}
+
+pub le-or-lt : (a b : ℕ) → (a ≤ b) ⊎ (b < a)
+le-or-lt a b = go (leb a b) refl
+  where
+    go : (t : Bool) → leb a b ≡ t → (a ≤ b) ⊎ (b < a)
+    go true e = inl (leb-true a b e)
+    go false e = inr (leb-false a b e)
+
+-- ---- a number and its bytes
+
+pub length-bytesOf : (n v : ℕ) → length (bytesOf n v) ≡ n
+unfolding bytesOf
+length-bytesOf zero v = refl
+length-bytesOf (suc n) v = ap suc (length-bytesOf n (v / 256))
+
+zero<256 : 0 < 256
+zero<256 = lit< tt
+
+pub little-bytesOf : (n v : ℕ) → little (bytesOf n v) ≡ v % 256 ^ n
+unfolding bytesOf little
+little-bytesOf zero v = sym (mod-one v)
+little-bytesOf (suc n) v =
+    rw (little-bytesOf n (v / 256), pow-suc) (omega (arith, mod-mul v (one-le-pow n 256 zero<256) zero<256))
+
+pub bytesOf-little : (bs : List ℕ) → Bytes bs → bytesOf (length bs) (little bs) ≡ bs
+unfolding bytesOf little
+bytesOf-little [] h = refl
+bytesOf-little (b ∷ bs) h =
+    let l : b < 256 = h 0 in
+    let low : (b + 256 * little bs) % 256 ≡ b = omega arith in
+    let high : (b + 256 * little bs) / 256 ≡ little bs = omega arith in
+    rw (low, high, bytesOf-little bs (λ i. h (suc i)))
+
+pub little-lt : (bs : List ℕ) → Bytes bs → little bs < 256 ^ length bs
+unfolding little
+little-lt [] h = lit< tt
+little-lt (b ∷ bs) h = rw pow-suc (omega (arith, h 0, little-lt bs (λ i. h (suc i))))
+
+-- ---- reading
+
+module _ (n : ℕ) (s : List ℕ) (p : ℕ) where
+  pub numberAt-in : p + n ≤ length s → numberAt n s p ≡ little (take n (drop p s))
+  unfolding numberAt
+  numberAt-in h = rw (le-leb _ _ h)
+
+  pub numberAt-out : length s < p + n → numberAt n s p ≡ 0
+  unfolding numberAt
+  numberAt-out h = rw (lt-leb _ _ h)
+
+-- the n elements at p, where they are there
+module _ (n : ℕ) (s : List ℕ) (p : ℕ) (h : p + n ≤ length s) where
+  pub length-part : length (take n (drop p s)) ≡ n
+  length-part = length-take-le n (drop p s) (omega (arith, length-drop p s))
+
+  part-bytes : Bytes s → Bytes (take n (drop p s))
+  part-bytes b i =
+      ⊎-elim
+      (λ (l : n ≤ i). rw (List·getD-eq-default (take n (drop p s)) 0 {n = i} (omega (arith, length-part))) zero<256)
+      (λ (l : i < n). rw (getD-take n (drop p s) i 0 l, getD-drop) (b (p + i)))
+      (le-or-lt n i)
+
+  -- the n bytes that are there are those of the number that is read
+  pub bytesOf-numberAt : Bytes s → bytesOf n (numberAt n s p) ≡ take n (drop p s)
+  bytesOf-numberAt b =
+      rw (numberAt-in n s p h) (subst (λ (k : ℕ). bytesOf k (little (take n (drop p s))) ≡ take n (drop p s)) length-part (bytesOf-little (take n (drop p s)) (part-bytes b)))
+
+pub numberAt-lt : (n : ℕ) (s : List ℕ) (p : ℕ) → Bytes s → numberAt n s p < 256 ^ n
+numberAt-lt n s p b =
+    ⊎-elim
+    (λ (h : p + n ≤ length s). rw (numberAt-in n s p h) (subst (λ (k : ℕ). little (take n (drop p s)) < 256 ^ k) (length-part n s p h) (little-lt (take n (drop p s)) (part-bytes n s p h b))))
+    (λ (h : length s < p + n). rw (numberAt-out n s p h) (one-le-pow n 256 zero<256))
+    (le-or-lt (p + n) (length s))
+
+-- one byte, and one byte before others
+pub numberAt-one : (s : List ℕ) (p : ℕ) → numberAt 1 s p ≡ byteAt s p
+unfolding little
+numberAt-one s p =
+    ⊎-elim
+    (λ (h : p + 1 ≤ length s). rw (numberAt-in 1 s p h, drop-cons s p 0 (omega arith)) (add-zero (byteAt s p)))
+    (λ (h : length s < p + 1). numberAt-out 1 s p h ∙ sym (List·getD-eq-default s 0 {n = p} (omega arith)))
+    (le-or-lt (p + 1) (length s))
+
+part-cons : (n : ℕ) (s : List ℕ) (p : ℕ) → p < length s → take (suc n) (drop p s) ≡ byteAt s p ∷ take n (drop (p + 1) s)
+part-cons n s p h = rw (drop-cons s p 0 h, add-one)
+
+pub two-bytes : (s : List ℕ) (p : ℕ) → p + 2 ≤ length s → little (byteAt s p ∷ byteAt s (p + 1) ∷ []) ≡ numberAt 2 s p
+two-bytes s p h = rw (numberAt-in 2 s p h, part-cons 1 s p (omega arith), part-cons 0 s (p + 1) (omega arith))
+
+pub four-bytes : (s : List ℕ) (p : ℕ) → p + 4 ≤ length s → little (byteAt s p ∷ byteAt s (p + 1) ∷ byteAt s (p + 2) ∷ byteAt s (p + 3) ∷ []) ≡ numberAt 4 s p
+four-bytes s p h =
+    rw (numberAt-in 4 s p h, part-cons 3 s p (omega arith), part-cons 2 s (p + 1) (omega arith), add-assoc, part-cons 1 s (p + 2) (omega arith), add-assoc, part-cons 0 s (p + 3) (omega arith))
+
+pub numberAt-suc : (n : ℕ) (s : List ℕ) (p : ℕ) → p + suc n ≤ length s → numberAt (suc n) s p ≡ byteAt s p + 256 * numberAt n s (p + 1)
+unfolding little
+numberAt-suc n s p h = rw (numberAt-in (suc n) s p h, numberAt-in n s (p + 1) (omega arith), drop-cons s p 0 (omega arith), add-one)
+
+-- a number in the first of two lists, and in the second
+pub numberAt-first : (n : ℕ) (a b : List ℕ) (p : ℕ) → p + n ≤ length a → numberAt n (a ++ b) p ≡ numberAt n a p
+numberAt-first n a b p h =
+    rw (numberAt-in n (a ++ b) p (omega (arith, length-append a b)), numberAt-in n a p h)
+    (rw (drop-append-le p a b (omega arith), take-append-le n (drop p a) b (omega (arith, length-drop p a))))
+
+pub numberAt-second : (n : ℕ) (a b : List ℕ) (m p : ℕ) → length a ≡ m → numberAt n (a ++ b) (m + p) ≡ numberAt n b p
+numberAt-second n a b m p e =
+    ⊎-elim
+    (λ (h : p + n ≤ length b). rw (numberAt-in n b p h, numberAt-in n (a ++ b) (m + p) (omega (arith, length-append a b)), ← drop-drop p m (a ++ b), drop-at a b m e))
+    (λ (h : length b < p + n). rw (numberAt-out n b p h, numberAt-out n (a ++ b) (m + p) (omega (arith, length-append a b))))
+    (le-or-lt (p + n) (length b))
+
+-- a number in the first k elements, and past them
+pub numberAt-take : (n : ℕ) (s : List ℕ) (k p : ℕ) → p + n ≤ k → numberAt n (take k s) p ≡ numberAt n s p
+numberAt-take n s k p l =
+    ⊎-elim
+    (λ (h : p + n ≤ length s). sym (rw take-append-drop at (numberAt-first n (take k s) (drop k s) p (omega (arith, length-take k s)))))
+    (λ (h : length s < p + n). rw (numberAt-out n s p h, numberAt-out n (take k s) p (omega (arith, length-take k s))))
+    (le-or-lt (p + n) (length s))
+
+pub numberAt-drop : (n : ℕ) (s : List ℕ) (k p : ℕ) → k ≤ length s → numberAt n (drop k s) p ≡ numberAt n s (k + p)
+numberAt-drop n s k p h = sym (rw take-append-drop at (numberAt-second n (take k s) (drop k s) k p (length-take-le k s h)))
+
+pub numberAt-bytesOf : (n v : ℕ) → v < 256 ^ n → numberAt n (bytesOf n v) 0 ≡ v
+numberAt-bytesOf n v l =
+    let e = length-bytesOf n v in
+    rw (numberAt-in n (bytesOf n v) 0 (omega arith), take-all n (bytesOf n v) (omega arith), little-bytesOf) (mod-eq-of-lt l)
+
+-- ---- writing
+
+module _ (s : List ℕ) (p : ℕ) (vs : List ℕ) where
+  pub putAt-in : p + length vs ≤ length s → putAt s p vs ≡ take p s ++ vs ++ drop (p + length vs) s
+  unfolding putAt
+  putAt-in h = rw (le-leb _ _ h)
+
+  pub putAt-out : length s < p + length vs → putAt s p vs ≡ s
+  unfolding putAt
+  putAt-out h = rw (lt-leb _ _ h)
+
+  pub length-putAt : length (putAt s p vs) ≡ length s
+  length-putAt =
+      ⊎-elim
+      (λ (h : p + length vs ≤ length s). rw (putAt-in h) (simp (length-append, length-drop) (omega (arith, length-take-le p s (omega arith)))))
+      (λ (h : length s < p + length vs). ap length (putAt-out h))
+      (le-or-lt (p + length vs) (length s))
+
+pub putAt-nil : (s : List ℕ) (p : ℕ) → putAt s p [] ≡ s
+putAt-nil s p =
+    ⊎-elim
+    (λ (h : p + 0 ≤ length s). putAt-in s p [] h ∙ rw (append-nil, add-zero) (take-append-drop p s))
+    (λ (h : length s < p + 0). putAt-out s p [] h)
+    (le-or-lt (p + 0) (length s))
+
+pub putAt-whole : (s vs : List ℕ) → length vs ≡ length s → putAt s 0 vs ≡ vs
+putAt-whole s vs e = putAt-in s 0 vs (omega arith) ∙ rw (drop-of-length-le s {i = 0 + length vs} (omega arith)) (append-nil vs)
+
+-- A list that is filled from the front, P so far and the rest as in o, takes vs right after P.
+pub front-step : (o P vs : List ℕ) (w : ℕ) → length P ≡ w → w + length vs ≤ length o → putAt (P ++ drop w o) w vs ≡ P ++ vs ++ drop (w + length vs) o
+front-step o P vs w e h =
+    let b = P ++ drop w o in
+    putAt-in b w vs (omega (arith, length-append P (drop w o), length-drop w o))
+    ∙ rw (take-at P (drop w o) w e, ← drop-drop (length vs) w (P ++ drop w o), drop-at P (drop w o) w e, drop-drop (length vs) w o)
+
+-- Two writes side by side are one.
+pub putAt-join : (s : List ℕ) (p : ℕ) (a b : List ℕ) (q : ℕ) → p + length a ≡ q → q + length b ≤ length s → putAt (putAt s p a) q b ≡ putAt s p (a ++ b)
+putAt-join s p a b q e h =
+    let l : p + length (a ++ b) ≡ q + length b = omega (arith, length-append a b) in
+    rw (putAt-in s p a (omega arith), putAt-in s p (a ++ b) (omega arith), l, e, ← append-assoc (take p s) a b)
+    (front-step s (take p s ++ a) b q (omega (arith, length-append (take p s) a, length-take-le p s (omega arith))) h)
+
+-- Stores in a row are one write, and so is a copy that has come to its end.
+pub sets-putAt : (s : List ℕ) (p : ℕ) (vs : List ℕ) → p + length vs ≤ length s → sets s p vs ≡ putAt s p vs
+sets-putAt s p vs h = sets-eq vs s p h ∙ sym (putAt-in s p vs h)
+
+pub paste-putAt : (s : List ℕ) (p : ℕ) (vs : List ℕ) → p + length vs ≤ length s → paste s p vs (length vs) ≡ putAt s p vs
+paste-putAt s p vs h = rw take-length (sym (putAt-in s p vs h))
+
+-- ---- reading what was written, and beside it
+
+module _ (s : List ℕ) (p : ℕ) (vs : List ℕ) where
+  -- the bytes before the written part, the part, and those after it
+  pub take-putAt : take p (putAt s p vs) ≡ take p s
+  take-putAt =
+      ⊎-elim
+      (λ (h : p + length vs ≤ length s). rw (putAt-in s p vs h, append-assoc) (take-at (take p s) (vs ++ drop (p + length vs) s) p (length-take-le p s (omega arith))))
+      (λ (h : length s < p + length vs). rw (putAt-out s p vs h))
+      (le-or-lt (p + length vs) (length s))
+
+  pub drop-putAt : drop (p + length vs) (putAt s p vs) ≡ drop (p + length vs) s
+  drop-putAt =
+      ⊎-elim
+      (λ (h : p + length vs ≤ length s). rw (putAt-in s p vs h) (drop-at (take p s ++ vs) (drop (p + length vs) s) (p + length vs) (omega (arith, length-append (take p s) vs, length-take-le p s (omega arith)))))
+      (λ (h : length s < p + length vs). rw (putAt-out s p vs h))
+      (le-or-lt (p + length vs) (length s))
+
+  -- a number in the written part, before it and after it
+  module _ (n : ℕ) where
+    pub numberAt-written : (k : ℕ) → p + length vs ≤ length s → k + n ≤ length vs → numberAt n (putAt s p vs) (p + k) ≡ numberAt n vs k
+    numberAt-written k h l =
+        rw (putAt-in s p vs h, append-assoc)
+        (numberAt-second n (take p s) (vs ++ drop (p + length vs) s) p k (length-take-le p s (omega arith)) ∙ numberAt-first n vs (drop (p + length vs) s) k l)
+
+    pub numberAt-before : (q : ℕ) → q + n ≤ p → numberAt n (putAt s p vs) q ≡ numberAt n s q
+    numberAt-before q l =
+        sym (numberAt-take n (putAt s p vs) p q l) ∙ ap (λ (t : List ℕ). numberAt n t q) take-putAt ∙ numberAt-take n s p q l
+
+    pub numberAt-after : (q : ℕ) → p + length vs ≤ q → numberAt n (putAt s p vs) q ≡ numberAt n s q
+    numberAt-after q l =
+        ⊎-elim
+        (λ (h : p + length vs ≤ length s).
+        let m = p + length vs in
+        let e : m + (q - m) ≡ q = omega arith in
+        subst (λ (r : ℕ). numberAt n (putAt s p vs) r ≡ numberAt n s r) e
+        (sym (numberAt-drop n (putAt s p vs) m (q - m) (omega (arith, length-putAt s p vs)))
+        ∙ ap (λ (t : List ℕ). numberAt n t (q - m)) drop-putAt
+        ∙ numberAt-drop n s m (q - m) h))
+        (λ (h : length s < p + length vs). rw (putAt-out s p vs h))
+        (le-or-lt (p + length vs) (length s))
+
+-- a number that is written is read back
+pub numberAt-put : (n : ℕ) (s : List ℕ) (p v : ℕ) → p + n ≤ length s → v < 256 ^ n → numberAt n (putAt s p (bytesOf n v)) p ≡ v
+numberAt-put n s p v h l =
+    let e = length-bytesOf n v in
+    rw add-zero at (numberAt-written s p (bytesOf n v) n 0 (omega arith) (omega arith)) ∙ numberAt-bytesOf n v l

@@ -1,0 +1,4 @@
+pub mod Laws
+pub mod Floats
+pub mod Signed
+pub mod First

@@ -1,0 +1,11 @@
+use mathlib.Core.Path.{refl}
+use Rattle.wire.specs.Wire.{usable}
+use Rattle.wire.proofs.usable.Statement.{statement}
+use Rattle.wire.proofs.usable.Tie as tie
+
+returns : tie.Need-returns
+unfolding usable
+returns c = refl
+
+pub usable-spec : {M : Type 1} → statement M
+usable-spec = tie.close (tie.spec returns)

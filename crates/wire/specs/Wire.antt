@@ -1,0 +1,73 @@
+-- Little-endian numbers and floats in a list of bytes: what stands at a place, and the list with bytes written at a place.
+use Prim.Native.Nat.{ℕ, zero, suc, _+_, _*_, _/_, _%_, _^_, _<_}
+use mathlib.Core.Bool.{Bool, cond}
+use mathlib.Core.List.{List, [], _∷_, _++_}
+use lib.ListN.{length, getD, take, drop}
+use lib.Dec.{leb, ltb}
+use lib.IntN.{ℤ}
+use lib.Ieee.{Float, binary32, ofBits, toBits}
+use mir.Syntax.{w16}
+use mir.Val.{toZ}
+
+-- ---- numbers
+
+-- The number that bytes stand for, the least significant first.
+abbrev pub little : List ℕ → ℕ
+little [] = 0
+little (b ∷ bs) = b + 256 * little bs
+
+-- The n lowest bytes of a number, the least significant first.
+unfoldable pub bytesOf : ℕ → ℕ → List ℕ
+bytesOf zero v = []
+bytesOf (suc n) v = v % 256 ∷ bytesOf n (v / 256)
+
+-- Each element is a byte, as in any slice of u8.
+abbrev pub Bytes : List ℕ → Type 0
+Bytes s = (i : ℕ) → getD s i 0 < 256
+
+-- ---- reading
+
+-- The byte at p, and 0 past the end.
+abbrev pub byteAt : List ℕ → ℕ → ℕ
+byteAt s p = getD s p 0
+
+-- The number of the n bytes at p, and 0 where they are not all there.
+unfoldable pub numberAt : ℕ → List ℕ → ℕ → ℕ
+numberAt n s p = cond (leb (p + n) (length s)) (little (take n (drop p s))) 0
+
+abbrev pub u16At : List ℕ → ℕ → ℕ
+u16At s p = numberAt 2 s p
+
+abbrev pub u32At : List ℕ → ℕ → ℕ
+u32At s p = numberAt 4 s p
+
+-- Two bytes as a signed number, in two's complement.
+unfoldable pub i16At : List ℕ → ℕ → ℤ
+i16At s p = toZ w16 (u16At s p)
+
+-- The f32 whose bits stand at p: every NaN's pattern is the one `nan`.
+abbrev pub f32At : List ℕ → ℕ → Float
+f32At s p = ofBits binary32 (u32At s p)
+
+-- ---- patterns of an f32, with the sign's bit left out of account
+
+-- A usable entry (document 01): finite and at most 1,024 in magnitude, whose bits are 0x4480_0000.
+unfoldable pub usable : ℕ → Bool
+usable b = leb (b % 2 ^ 31) 0x4480_0000
+
+abbrev pub usableAt : List ℕ → ℕ → Bool
+usableAt s p = usable (u32At s p)
+
+-- Finite: below the bits of the infinity.
+unfoldable pub finiteBits : ℕ → Bool
+finiteBits b = ltb (b % 2 ^ 31) 0x7f80_0000
+
+-- ---- writing
+
+-- The four bytes of an f32.
+abbrev pub floatBytes : Float → List ℕ
+floatBytes x = bytesOf 4 (toBits binary32 x)
+
+-- The list with vs from p on where they fit, and the list as it is where they do not.
+unfoldable pub putAt : List ℕ → ℕ → List ℕ → List ℕ
+putAt s p vs = cond (leb (p + length vs) (length s)) (take p s ++ vs ++ drop (p + length vs) s) s

@@ -1,0 +1,237 @@
+// Little-endian numbers and floats in lent bytes. Every public function is total: what is not there reads as 0,
+// and what does not fit is not written.
+ghost use mathlib.Core.Path.{_≡_};
+ghost use mathlib.Core.List.{[], _∷_, _++_};
+ghost use Prim.Native.Nat.{_+_, _*_, _-_, _<_, _≤_};
+ghost use lib.ListN.{length};
+ghost use lib.Ieee.{binary32, ofBits, toBits};
+ghost use mir.Syntax.{w16};
+ghost use mir.Val.{toZ, ofZ};
+ghost use Rattle.wire.specs.Wire.{little, byteAt, u16At, i16At, u32At, f32At, usable, usableAt, finiteBits, bytesOf, floatBytes, putAt};
+ghost use Rattle.wire.specs.First.{firstUnusable};
+
+// ---- numbers and their bits
+
+// The signed number of 16 bits, in two's complement.
+pub fn signed16(bits: u16) -> i16
+    ensures { λ r. ⌜ r ≡ toZ w16 bits ⌝ }
+{
+    if bits < 0x8000 {
+        bits as i16
+    } else {
+        -1 - ((0xffff - bits) as i16)
+    }
+}
+
+// The 16 bits of a signed number.
+pub fn bits16(value: i16) -> u16
+    ensures { λ r. ⌜ r ≡ ofZ w16 value ⌝ }
+{
+    if value >= 0 {
+        value as u16
+    } else {
+        0xffff - ((-1 - value) as u16)
+    }
+}
+
+// The float of a bit pattern. Every NaN's pattern is the logic's one NaN.
+pub fn f32_of(bits: u32) -> f32
+    ensures { λ r. ⌜ r ≡ ofBits binary32 bits ⌝ }
+{
+    if bits % 0x8000_0000 <= 0x7f80_0000 {
+        f32::from_bits(bits)
+    } else {
+        0.0 / 0.0
+    }
+}
+
+// The bit pattern of a float. A NaN has none of its own, and gives 0x7fc0_0000.
+pub fn float_bits(x: f32) -> u32
+    ensures { λ r. ⌜ r ≡ toBits binary32 x ⌝ }
+{
+    if x == x { f32::to_bits(x) } else { 0x7fc0_0000 }
+}
+
+// Finite and at most 1,024 in magnitude.
+pub fn usable(bits: u32) -> bool
+    ensures { λ r. ⌜ r ≡ usable bits ⌝ }
+{
+    bits % 0x8000_0000 <= 0x4480_0000
+}
+
+pub fn finite_bits(bits: u32) -> bool
+    ensures { λ r. ⌜ r ≡ finiteBits bits ⌝ }
+{
+    bits % 0x8000_0000 < 0x7f80_0000
+}
+
+// ---- reading
+
+fn join2(a: u8, b: u8) -> u16
+    ensures { λ r. ⌜ r ≡ little (a ∷ b ∷ []) ⌝ }
+{
+    (a as u16) + 256 * (b as u16)
+}
+
+fn join4(a: u8, b: u8, c: u8, d: u8) -> u32
+    ensures { λ r. ⌜ r ≡ little (a ∷ b ∷ c ∷ d ∷ []) ⌝ }
+{
+    (a as u32) + 256 * (b as u32) + 65536 * (c as u32) + 16777216 * (d as u32)
+}
+
+// Two bytes that are there: one load.
+fn pair(s: &[u8], p: usize) -> u16
+    requires { ⌜ p + 2 ≤ length (now s) ⌝ }
+    ensures { λ r. ⌜ r ≡ u16At (now (s .entry)) p ⌝ }
+{
+    join2(s[p], s[p + 1])
+}
+
+// Four bytes that are there: one load.
+fn word(s: &[u8], p: usize) -> u32
+    requires { ⌜ p + 4 ≤ length (now s) ⌝ }
+    ensures { λ r. ⌜ r ≡ u32At (now (s .entry)) p ⌝ }
+{
+    join4(s[p], s[p + 1], s[p + 2], s[p + 3])
+}
+
+// The byte at a place, and 0 past the end.
+pub fn byte_at(s: &[u8], p: usize) -> u8
+    ensures { λ r. ⌜ r ≡ byteAt (now (s .entry)) p ⌝ }
+{
+    if p < s.len() { s[p] } else { 0 }
+}
+
+// The two bytes at a place, and 0 where they are not both there.
+pub fn u16_at(s: &[u8], p: usize) -> u16
+    ensures { λ r. ⌜ r ≡ u16At (now (s .entry)) p ⌝ }
+{
+    if 2 <= s.len() {
+        if p <= s.len() - 2 {
+            return pair(s, p);
+        }
+    }
+    0
+}
+
+pub fn i16_at(s: &[u8], p: usize) -> i16
+    ensures { λ r. ⌜ r ≡ i16At (now (s .entry)) p ⌝ }
+{
+    signed16(u16_at(s, p))
+}
+
+// The four bytes at a place, and 0 where they are not all there.
+pub fn u32_at(s: &[u8], p: usize) -> u32
+    ensures { λ r. ⌜ r ≡ u32At (now (s .entry)) p ⌝ }
+{
+    if 4 <= s.len() {
+        if p <= s.len() - 4 {
+            return word(s, p);
+        }
+    }
+    0
+}
+
+pub fn f32_at(s: &[u8], p: usize) -> f32
+    ensures { λ r. ⌜ r ≡ f32At (now (s .entry)) p ⌝ }
+{
+    f32_of(u32_at(s, p))
+}
+
+pub fn usable_at(s: &[u8], p: usize) -> bool
+    ensures { λ r. ⌜ r ≡ usableAt (now (s .entry)) p ⌝ }
+{
+    usable(u32_at(s, p))
+}
+
+// ---- the first unusable entry
+
+// Of n entries that lie whole in the bytes.
+fn scan(s: &[u8], from: usize, n: usize) -> usize
+    requires { ⌜ from + 4 * n ≤ length (now s) ⌝ }
+    ensures { λ r. ⌜ r ≡ firstUnusable (now (s .entry)) from n ⌝ }
+{
+    let mut i = 0;
+    while i < n {
+        if usable(word(s, from + 4 * i)) {
+            i += 1;
+        } else {
+            return i;
+        }
+    }
+    i
+}
+
+// The index of the first unusable one of count entries from the byte from on, and count where each is usable.
+// Entries past the end read as 0, so only those that lie whole in the bytes are looked at.
+pub fn first_unusable(s: &[u8], from: usize, count: usize) -> usize
+    ensures { λ r. ⌜ r ≡ firstUnusable (now (s .entry)) from count ⌝ }
+{
+    if s.len() < from {
+        return count;
+    }
+    let inside = (s.len() - from) / 4;
+    if count <= inside {
+        return scan(s, from, count);
+    }
+    let i = scan(s, from, inside);
+    if i < inside { i } else { count }
+}
+
+// ---- writing
+
+// Four bytes where they fit: one store.
+fn store(s: &mut [u8], p: usize, v: u32)
+    requires { ⌜ p + 4 ≤ length (now s) ⌝ }
+    ensures { λ _. ⌜ now (s .exit) ≡ putAt (now (s .entry)) p (bytesOf 4 v) ⌝ }
+{
+    s[p] = (v % 256) as u8;
+    s[p + 1] = (v / 256 % 256) as u8;
+    s[p + 2] = (v / 256 / 256 % 256) as u8;
+    s[p + 3] = (v / 256 / 256 / 256 % 256) as u8;
+}
+
+// Writes bytes at a place where they fit.
+pub fn put(dst: &mut [u8], at: usize, src: &[u8])
+    ensures { λ _. ⌜ now (dst .exit) ≡ putAt (now (dst .entry)) at (now (src .entry)) ⌝ }
+{
+    if at <= dst.len() {
+        if src.len() <= dst.len() - at {
+            let mut i = 0;
+            while i < src.len() {
+                dst[at + i] = src[i];
+                i += 1;
+            }
+        }
+    }
+}
+
+pub fn put_u32(s: &mut [u8], p: usize, v: u32)
+    ensures { λ _. ⌜ now (s .exit) ≡ putAt (now (s .entry)) p (bytesOf 4 v) ⌝ }
+{
+    if 4 <= s.len() {
+        if p <= s.len() - 4 {
+            store(s, p, v);
+        }
+    }
+}
+
+pub fn put_f32(s: &mut [u8], p: usize, x: f32)
+    ensures { λ _. ⌜ now (s .exit) ≡ putAt (now (s .entry)) p (floatBytes x) ⌝ }
+{
+    put_u32(s, p, float_bits(x));
+}
+
+// Writes four words side by side, as a sample has them, where all sixteen bytes fit.
+pub fn put_row(s: &mut [u8], p: usize, a: u32, b: u32, c: u32, d: u32)
+    ensures { λ _. ⌜ now (s .exit) ≡ putAt (now (s .entry)) p (bytesOf 4 a ++ bytesOf 4 b ++ bytesOf 4 c ++ bytesOf 4 d) ⌝ }
+{
+    if 16 <= s.len() {
+        if p <= s.len() - 16 {
+            store(s, p, a);
+            store(s, p + 4, b);
+            store(s, p + 8, c);
+            store(s, p + 12, d);
+        }
+    }
+}
