@@ -20,6 +20,7 @@ fn main() {
     write("bundle", &bundle);
 
     save("constants", constants(&coefficients[0]));
+    save("answers", answers());
     save("rounding", rounding(&mut filter));
     save("round", round());
     save("truncate", truncate());
@@ -64,9 +65,18 @@ fn save<const N: usize>(name: &str, records: Vec<[u32; N]>) {
     println!("{name}: {} records of {N} words", records.len());
 }
 
+/// One record of several parts.
+fn joined<const PARTS: usize, const N: usize>(parts: [&[u32]; PARTS]) -> [u32; N] {
+    parts.concat().try_into().expect("a record of the stated width")
+}
+
 /// The word of an f32: its bits, and one pattern for every NaN.
 fn word(x: f32) -> u32 {
-    if x.is_nan() { 0x7fc0_0000 } else { x.to_bits() }
+    if x.is_nan() {
+        0x7fc0_0000
+    } else {
+        x.to_bits()
+    }
 }
 
 /// The two words of 64 bits, the low one first.
@@ -83,9 +93,7 @@ fn words_f64(x: f64) -> [u32; 2] {
 
 /// FNV-1a, 64 bits.
 fn fnv(bytes: impl IntoIterator<Item = u8>) -> u64 {
-    bytes
-        .into_iter()
-        .fold(0xcbf2_9ce4_8422_2325, |hash, byte| (hash ^ u64::from(byte)).wrapping_mul(0x0000_0100_0000_01b3))
+    bytes.into_iter().fold(0xcbf2_9ce4_8422_2325, |hash, byte| (hash ^ u64::from(byte)).wrapping_mul(0x0000_0100_0000_01b3))
 }
 
 /// The generator splitmix64, seeded by a file's name: each file is the same at every dump, whatever the others hold.
@@ -178,7 +186,7 @@ fn edges() -> Vec<f32> {
     EDGES.iter().flat_map(|&x| [x, -x]).collect()
 }
 
-/// The edges, then as many others.
+/// The edges, then other numbers.
 fn inputs(random: &mut Random, others: usize) -> Vec<f32> {
     let mut inputs = edges();
     inputs.extend((0..others).map(|index| if index % 2 == 0 { random.any() } else { random.moderate() }));
@@ -355,6 +363,28 @@ fn constants(coefficients: &FilterCoefficients) -> Vec<[u32; 5]> {
     records
 }
 
+// ---- Answers
+
+/// Document 01's table: number, buffer and place of two answers, then those of the first that refuses, with what its row names.
+fn answers() -> Vec<[u32; 9]> {
+    let mut random = Random::of("answers");
+    let mut pairs = vec![];
+    for first in 0..=10 {
+        for second in 0..=10 {
+            let mut answer = |number| [number, random.below(2), 4 * random.below(1 << 21)];
+            let (first, second) = (answer(first), answer(second));
+            let [number, buffer, place] = if first[0] == 0 { second } else { first };
+            let reported = match number {
+                2 => [number, 0, place],
+                3 => [number, buffer, place],
+                _ => [number, 0, 0],
+            };
+            pairs.push(joined([&first, &second, &reported]));
+        }
+    }
+    pairs
+}
+
 // ---- Rust's std and the words of the bundle
 
 /// Every step: the product rounded, and the displacement that a write of cutoff high leaves.
@@ -407,8 +437,7 @@ fn clamp() -> Vec<[u32; 4]> {
         (f32::NEG_INFINITY, f32::INFINITY),
         (f32::INFINITY, f32::INFINITY),
     ];
-    let mut cases: Vec<(f32, f32, f32)> =
-        bounds.iter().flat_map(|&(low, high)| edges().into_iter().map(move |x| (x, low, high))).collect();
+    let mut cases: Vec<(f32, f32, f32)> = bounds.iter().flat_map(|&(low, high)| edges().into_iter().map(move |x| (x, low, high))).collect();
     while cases.len() < 3000 {
         let (x, low, high) = if cases.len() % 2 == 0 {
             (random.any(), random.any(), random.any())
@@ -517,7 +546,8 @@ impl Lent {
         let words: [u32; 3] = std::array::from_fn(|_| match random.below(3) {
             0 => random.bits() as u32,
             1 => random.between(-1100.0, 1100.0).to_bits(),
-            _ => [0x7fc0_0000, 0xffff_ffff, 0x7f80_0001, 0x7f80_0000, 0xff80_0000, 0x4480_0000, 0x4480_0001, 0x8000_0000][random.below(8) as usize],
+            _ => [0x7fc0_0000, 0xffff_ffff, 0x7f80_0001, 0x7f80_0000, 0xff80_0000, 0x4480_0000, 0x4480_0001, 0x8000_0000]
+                [random.below(8) as usize],
         });
         let bytes = words.map(u32::to_le_bytes).as_flattened().try_into().expect("twelve bytes");
         let place = match random.below(8) {
@@ -583,7 +613,8 @@ fn puts() -> Vec<[u32; 10]> {
 
 fn saturate() -> Vec<[u32; 3]> {
     let mut random = Random::of("saturate");
-    let mut cases: Vec<(f32, f32)> = edges().into_iter().flat_map(|value| [0.48, 2.1, 0.0, -1.0, 1.0e30].map(|drive| (value, drive))).collect();
+    let mut cases: Vec<(f32, f32)> =
+        edges().into_iter().flat_map(|value| [0.48, 2.1, 0.0, -1.0, 1.0e30].map(|drive| (value, drive))).collect();
     cases.extend((0..1500).map(|_| (random.between(-2.0, 2.0), random.between(0.3, 2.3))));
     cases.extend((0..1000).map(|_| (random.moderate(), random.moderate())));
     cases.extend((0..500).map(|_| (random.any(), random.any())));
@@ -649,11 +680,6 @@ fn substeps() -> Vec<[u32; 28]> {
         .collect()
 }
 
-/// One record of several parts.
-fn joined<const PARTS: usize, const N: usize>(parts: [&[u32]; PARTS]) -> [u32; N] {
-    parts.concat().try_into().expect("a record of the stated width")
-}
-
 // ---- Response
 
 fn operating() -> Vec<[u32; 6]> {
@@ -710,7 +736,8 @@ fn topology() -> Vec<[u32; 19]> {
             let (routing, mode) = (pair >> 4, pair & 15);
             let mut topology = MixingTopology::new();
             topology.update(routing, mode);
-            let counts = [topology.filter_input_count, topology.bypass_input_count, topology.filter_output_count, topology.mixer_input_count];
+            let counts =
+                [topology.filter_input_count, topology.bypass_input_count, topology.filter_output_count, topology.mixer_input_count];
             let reciprocals = [topology.filter_input_reciprocal, topology.summer_input_reciprocal, topology.mixer_input_reciprocal];
             joined([
                 &[routing.into(), mode.into()],
@@ -729,7 +756,8 @@ fn topology() -> Vec<[u32; 19]> {
 /// Ratio, terminated, the twelve weights.
 fn weights() -> Vec<[u32; 27]> {
     let mut random = Random::of("ladder_weights");
-    let mut ratios = vec![SID_FILTER_DAC_TWO_R_OVER_R, SID_VOICE_DAC_TWO_R_OVER_R, 2.0, 1.0, 0.5, -2.0, 1.0e-12, 1.0e12, 1.0e-310, f64::INFINITY];
+    let mut ratios =
+        vec![SID_FILTER_DAC_TWO_R_OVER_R, SID_VOICE_DAC_TWO_R_OVER_R, 2.0, 1.0, 0.5, -2.0, 1.0e-12, 1.0e12, 1.0e-310, f64::INFINITY];
     ratios.extend([0.0, -0.0, f64::NAN]);
     ratios.extend((0..187).map(|_| random.between(0.5, 4.0) as f64 + random.between(0.0, 1.0e-7) as f64));
     ratios
@@ -824,7 +852,7 @@ fn cutoff_words(filter: &mut Filter) -> [u32; 4] {
 }
 
 /// Walks of cutoff writes from the starting value: the state before, the register (0 low, 1 high), the value, the state after, and
-/// the effective cutoff. Half of the high writes go to a near code, where the displacement is not at its limit.
+/// the effective cutoff. Half of the values lie near the cutoff, where the displacement is seldom at its limit.
 fn writes(filter: &mut Filter) -> Vec<[u32; 11]> {
     let mut random = Random::of("writes");
     let mut records = vec![];
@@ -834,8 +862,8 @@ fn writes(filter: &mut Filter) -> Vec<[u32; 11]> {
             let before = cutoff_words(filter);
             let register = random.below(2);
             let value = match random.below(4) {
-                0 | 1 => random.bits() as u8,
-                2 => [0, 7, 248, 255][random.below(4) as usize],
+                0 => random.bits() as u8,
+                1 => [0, 7, 248, 255][random.below(4) as usize],
                 _ => ((before[0] >> 3) as u8).wrapping_add(random.below(17) as u8).wrapping_sub(8),
             };
             match register {
