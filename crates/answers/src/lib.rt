@@ -40,6 +40,7 @@ pub struct Reported {
     pub place: u32,
 }
 
+// The columns of the table: the number, the buffer and the place.
 fn number(a: Answer) -> u32
     ensures { λ r. ⌜ r ≡ numberOf a ⌝ }
 {

@@ -795,12 +795,14 @@ fn entry_at(table: &[[f32; 32]; 3], mode_index: usize, i: usize) -> f32
     0.0 / 0.0
 }
 
+// The load on a mode that is on alone, over the cutoff: i is 0 to 31.
 pub fn single_mode_cutoff_gain(mode_index: usize, i: usize) -> f32
     ensures { λ r. ⌜ r ≡ singleModeCutoffGainOf «mode_index» i ⌝ }
 {
     entry_at(&FILTER_SINGLE_MODE_CUTOFF_GAIN, mode_index, i)
 }
 
+// The same over the resonance, 0 to 15.
 pub fn single_mode_resonance_gain(mode_index: usize, resonance: usize) -> f32
     ensures { λ r. ⌜ r ≡ singleModeResonanceGainOf «mode_index» resonance ⌝ }
 {
@@ -812,12 +814,14 @@ pub fn single_mode_resonance_gain(mode_index: usize, resonance: usize) -> f32
     0.0 / 0.0
 }
 
+// The gain after the largest step upwards of the cutoff: i is 0 to 31.
 pub fn directional_loading_gain(mode_index: usize, i: usize) -> f32
     ensures { λ r. ⌜ r ≡ directionalLoadingGainOf «mode_index» i ⌝ }
 {
     entry_at(&FILTER_DIRECTIONAL_LOADING_GAIN, mode_index, i)
 }
 
+// The gain that does not depend on the direction of the step: i is 0 to 31.
 pub fn symmetric_loading_gain(mode_index: usize, i: usize) -> f32
     ensures { λ r. ⌜ r ≡ symmetricLoadingGainOf «mode_index» i ⌝ }
 {
