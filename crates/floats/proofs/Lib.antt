@@ -1,0 +1,5 @@
+pub mod Formats
+pub mod Laws
+pub mod Narrowing
+pub mod Range
+pub mod Rounding
