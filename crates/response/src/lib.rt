@@ -98,6 +98,7 @@ pub fn filter_output_common_mode(mode: u8, cutoff: u16) -> f32
 // ---- positions
 
 // The two entries of a table that a position lies between, and how far it lies from the lower one.
+#[repr(C)]
 pub struct TablePosition {
     pub lower: usize,
     pub upper: usize,
