@@ -1,0 +1,75 @@
+-- The invariant: each byte passed is the header's. The loop ends at the one index of which `first-is` speaks.
+use Prim.Native.Nat.{ℕ, _-_, _≤_, _<_}
+use mathlib.Core.Path.{_≡_, sym, _∙_}
+use mathlib.Core.Bool.{true}
+use native.Mathlib.Omega.{arith}
+use denote.Ref.{now}
+use borrow.Author.Count.{below-none, below-more}
+use borrow.Author.Needs.{needs}
+use borrow.Author.Tests.{eq-eqb, ne-eqb}
+use Rattle.wire.specs.Wire.{bytesOf}
+use Rattle.wire.proofs.First.{first-is}
+use Rattle.bundle.specs.Layout.{header}
+use Rattle.bundle.specs.Opening.{headerByte}
+use Rattle.bundle.proofs.first_difference.Statement.{statement}
+use Rattle.bundle.proofs.first_difference.Tie as tie
+
+abbrev Inv-loop : tie.InvT-loop
+Inv-loop bundle i₀ i = (i ≤ 56) × ((k : ℕ) → k < i → headerByte bundle k ≡ true)
+
+abbrev μ-loop : tie.MeasureT-loop
+μ-loop bundle i₀ i = 56 - i
+
+loop-holds : tie.Need-loop-holds Inv-loop μ-loop
+loop-holds c = (search needs, below-none _)
+
+cast-byte-at : tie.Need-cast-byte-at Inv-loop μ-loop
+cast-byte-at c = search needs
+
+byte-at-requires : tie.Need-byte-at-requires Inv-loop μ-loop
+byte-at-requires c κs = search needs
+
+cast-if1 : tie.Need-cast-if1 Inv-loop μ-loop
+cast-if1 c = search needs
+
+array-read-if1 : tie.Need-array-read-if1 Inv-loop μ-loop
+array-read-if1 c = search needs
+
+returns : tie.Need-returns Inv-loop μ-loop
+unfolding headerByte header bytesOf
+returns c =
+    let z = c .before .before .before in
+    sym (first-is (headerByte (now (z .before .before .args .bundle))) 56 0 (z .loop .i) (search needs) (search needs) (λ k _. z .loop .inv .1 k)
+    (λ _. ne-eqb _ _ (λ e. c .if1 .taken (c .before .byte-at .ensures ∙ e))))
+
+add-i : tie.Need-add-i Inv-loop μ-loop
+add-i c = search needs
+
+loop-less : tie.Need-loop-less Inv-loop μ-loop
+loop-less c = search needs
+
+loop-again : tie.Need-loop-again Inv-loop μ-loop
+unfolding headerByte header bytesOf
+loop-again c = (search needs, below-more _ _ (c .before .before .before .loop .inv .1) (eq-eqb _ _ (sym (c .before .byte-at .ensures) ∙ c .if1 .left)))
+
+returns-2 : tie.Need-returns-2 Inv-loop μ-loop
+returns-2 c =
+    let z = c .before in
+    sym (first-is (headerByte (now (z .before .before .args .bundle))) 56 0 (z .loop .i) (search needs) (search needs) (λ k _. z .loop .inv .1 k) (λ l. absurd (omega arith)))
+
+pub first-difference-spec : {M : Type 1} → statement M
+first-difference-spec =
+    tie.close
+    (tie.spec
+    Inv-loop
+    μ-loop
+    loop-holds
+    cast-byte-at
+    byte-at-requires
+    cast-if1
+    array-read-if1
+    returns
+    add-i
+    loop-less
+    loop-again
+    returns-2)
