@@ -15,13 +15,13 @@ use Rattle.answers.proofs.Laws.{first-done, unless-done}
 use Rattle.wire.specs.Wire.{bytesOf, usableAt}
 use Rattle.wire.specs.First.{firstUnusable}
 use Rattle.wire.proofs.First.{first-before, first-is, none-unusable, all-usable}
-use Rattle.bundle.specs.Layout.{Section, sections, everyEntry, analogueSurface, bundleLength, header, entryPlace}
+use Rattle.bundle.specs.Layout.{Section, sections, everyEntry, analogueSurface, bundleLength, words, header, entryPlace}
 use Rattle.bundle.specs.Opening.{headerByte, firstDifference, checkOf, judgeSectionOf, openOf, Accepted}
 
 -- ---- the header
 
 header-long : length header ≡ 56
-unfolding header bytesOf
+unfolding header words bytesOf
 header-long = refl
 
 module _ (bundle : List ℕ) where

@@ -1,22 +1,56 @@
 -- Laws of the layout, and of the entries that a call reads.
-use Prim.Native.Nat.{ℕ, zero, suc, _+_, _-_, _*_, _≤_, _<_}
+use Prim.Native.Nat.{ℕ, zero, suc, _+_, _-_, _*_, _/_, _%_, _^_, _≤_, _<_}
 use mathlib.Core.Path.{_≡_, refl, ap, sym, _∙_}
 use mathlib.Core.Bool.{Bool, true, false, cond}
+use mathlib.Core.Logic.{⊎-elim}
 use mathlib.Core.List.{List, [], _∷_, _++_}
 use native.Mathlib.Omega.{arith}
 use native.Mathlib.Numerals.{add-one}
+use native.Mathlib.Nat.{zero-div, zero-mod, div-one, div-div-eq-div-mul}
 use lib.IntN.{ℤ, pos, negsuc}
-use lib.ListN.{length, getD, drop}
-use lib.Seq.{drop-cons}
+use lib.ListN.{length, getD, drop, List·getD-append}
+use lib.Pow.{pow-add}
+use lib.Seq.{drop-cons, getD-append-add}
 use mir.Syntax.{w16}
 use mir.Val.{ofZ, SFits}
 use Rattle.answers.specs.declared.Buffer.{Buffer}
 use Rattle.answers.specs.declared.Answer.{Answer}
 use Rattle.answers.specs.declared.Answer.the-variants.{Done, Entry}
 use Rattle.answers.specs.Answers.{firstOf}
-use Rattle.wire.specs.Wire.{usableAt}
-use Rattle.bundle.specs.Layout.{displacementIndexOf}
+use Rattle.wire.specs.Wire.{bytesOf, usableAt}
+use Rattle.wire.proofs.Laws.{le-or-lt, length-bytesOf}
+use Rattle.bundle.specs.Layout.{words, displacementIndexOf}
 use Rattle.bundle.specs.Opening.{judgePlacesOf}
+
+-- ---- the bytes of numbers that stand one after the other
+
+byte-of : (n v j : ℕ) → j < n → getD (bytesOf n v) j 0 ≡ v / 2 ^ (8 * j) % 256
+unfolding bytesOf
+byte-of zero v j h = absurd (omega arith)
+byte-of (suc n) v zero h = rw div-one
+byte-of (suc n) v (suc j) h =
+    let e : 8 * suc j ≡ 8 + 8 * j = omega arith in
+    rw (byte-of n (v / 256) j (omega arith), div-div-eq-div-mul, e, pow-add)
+
+pub byte-of-words : (ns : List ℕ) (k : ℕ) → getD (words ns) k 0 ≡ getD ns (k / 4) 0 / 2 ^ (8 * (k % 4)) % 256
+unfolding words
+byte-of-words [] k = rw (zero-div, zero-mod)
+byte-of-words (n ∷ rest) k =
+    ⊎-elim
+    (λ (h : 4 ≤ k).
+    let j = k - 4 in
+    let e : k ≡ 4 + j = omega arith in
+    let q : k / 4 ≡ suc (j / 4) = omega arith in
+    let r : k % 4 ≡ j % 4 = omega arith in
+    rw (q, r) (ap (λ (i : ℕ). getD (bytesOf 4 n ++ words rest) i 0) e ∙ four-on n rest j ∙ byte-of-words rest j))
+    (λ (h : k < 4).
+    let q : k / 4 ≡ 0 = omega arith in
+    let r : k % 4 ≡ k = omega arith in
+    rw (q, r) (List·getD-append (bytesOf 4 n) (words rest) 0 k (rw length-bytesOf h) ∙ byte-of 4 n k h))
+    (le-or-lt 4 k)
+  where
+    four-on : (n : ℕ) (rest : List ℕ) (j : ℕ) → getD (bytesOf 4 n ++ words rest) (4 + j) 0 ≡ getD (words rest) j 0
+    four-on n rest j = rw length-bytesOf at (getD-append-add (bytesOf 4 n) (words rest) j 0)
 
 -- ---- the displacement's index, from its 16 bits
 

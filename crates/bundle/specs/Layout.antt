@@ -41,10 +41,15 @@ everyEntry = record { offset = 56; count = 1531920 }
 
 abbrev pub pairs : List Section → List ℕ
 pairs [] = []
-pairs (s ∷ rest) = bytesOf 4 (s .offset) ++ bytesOf 4 (s .count) ++ pairs rest
+pairs (section ∷ rest) = section .offset ∷ section .count ∷ pairs rest
+
+-- Numbers one after the other, four bytes each.
+unfoldable pub words : List ℕ → List ℕ
+words [] = []
+words (n ∷ rest) = bytesOf 4 n ++ words rest
 
 unfoldable pub header : List ℕ
-header = bytesOf 4 bundleLength ++ bytesOf 4 6 ++ pairs sections
+header = words (bundleLength ∷ 6 ∷ pairs sections)
 
 -- ---- the byte at which an entry stands
 

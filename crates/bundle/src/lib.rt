@@ -1,69 +1,28 @@
 // The bundle of tables that the Rust makes: its fixed header, the places of its entries, reading one, and opening.
 ghost use mathlib.Core.Path.{_≡_};
-ghost use Prim.Native.Nat.{_+_, _*_, _≤_};
-ghost use Rattle.bundle.specs.Layout.{integratorGainPlace, dampingPlace, sourceGainModulationPlace, surfacePlace, highpassLoadingPlace, displacementIndexOf, directionalPowerPlace, analogueSurface};
+ghost use Prim.Native.Nat.{_+_, _*_, _≤_, _<_};
+ghost use lib.ListN.{getD};
+ghost use Rattle.bundle.specs.Layout.{integratorGainPlace, dampingPlace, sourceGainModulationPlace, surfacePlace, highpassLoadingPlace, displacementIndexOf, directionalPowerPlace, analogueSurface, header};
 ghost use Rattle.bundle.specs.Opening.{entryAt, firstDifference, checkOf, judgePlacesOf, judgeSectionOf, openOf};
 use answers::Answer;
 use answers::Buffer;
 
-// The total length and the section count, then the byte offset and the entry count of each section.
-const HEADER: [u8; 56] = [
-    0x78,
-    0x80,
-    0x5d,
-    0x00,
-    0x06,
-    0x00,
-    0x00,
-    0x00,
-    0x38,
-    0x00,
-    0x00,
-    0x00,
-    0x00,
-    0x00,
-    0x08,
-    0x00,
-    0x38,
-    0x00,
-    0x20,
-    0x00,
-    0x10,
-    0x00,
-    0x00,
-    0x00,
-    0x78,
-    0x00,
-    0x20,
-    0x00,
-    0x00,
-    0x08,
-    0x00,
-    0x00,
-    0x78,
-    0x20,
-    0x20,
-    0x00,
-    0x00,
-    0x88,
-    0x04,
-    0x00,
-    0x78,
-    0x40,
-    0x32,
-    0x00,
-    0x00,
-    0x08,
-    0x00,
-    0x00,
-    0x78,
-    0x60,
-    0x32,
-    0x00,
-    0x00,
-    0xc8,
-    0x0a,
-    0x00,
+// The header's words: the total length and the section count, then the byte offset and the entry count of each section.
+const HEADER: [u32; 14] = [
+    6127736,
+    6,
+    56,
+    524288,
+    2097208,
+    16,
+    2097272,
+    2048,
+    2105464,
+    296960,
+    3293304,
+    2048,
+    3301496,
+    706560,
 ];
 
 // ---- the byte at which an entry stands
@@ -175,12 +134,19 @@ pub fn judge_surface(bundle: &[u8]) -> Answer
 
 // ---- opening
 
+fn header_byte(i: u32) -> u8
+    requires { ⌜ i < 56 ⌝ }
+    ensures { λ r. ⌜ r ≡ getD header i 0 ⌝ }
+{
+    ((HEADER[(i / 4) as usize] >> (8 * (i % 4))) % 256) as u8
+}
+
 fn first_difference(bundle: &[u8]) -> u32
     ensures { λ r. ⌜ r ≡ firstDifference (now (bundle .entry)) ⌝ }
 {
     let mut i = 0;
     while i < 56 {
-        if wire::byte_at(bundle, i as usize) != HEADER[i as usize] {
+        if wire::byte_at(bundle, i as usize) != header_byte(i) {
             return i;
         }
         i += 1;

@@ -7,9 +7,7 @@ use denote.Ref.{now}
 use borrow.Author.Count.{below-none, below-more}
 use borrow.Author.Needs.{needs}
 use borrow.Author.Tests.{eq-eqb, ne-eqb}
-use Rattle.wire.specs.Wire.{bytesOf}
 use Rattle.wire.proofs.First.{first-is}
-use Rattle.bundle.specs.Layout.{header}
 use Rattle.bundle.specs.Opening.{headerByte}
 use Rattle.bundle.proofs.first_difference.Statement.{statement}
 use Rattle.bundle.proofs.first_difference.Tie as tie
@@ -29,18 +27,15 @@ cast-byte-at c = search needs
 byte-at-requires : tie.Need-byte-at-requires Inv-loop μ-loop
 byte-at-requires c κs = search needs
 
-cast-if1 : tie.Need-cast-if1 Inv-loop μ-loop
-cast-if1 c = search needs
-
-array-read-if1 : tie.Need-array-read-if1 Inv-loop μ-loop
-array-read-if1 c = search needs
+header-byte-requires : tie.Need-header-byte-requires Inv-loop μ-loop
+header-byte-requires c κs = search needs
 
 returns : tie.Need-returns Inv-loop μ-loop
-unfolding headerByte header bytesOf
+unfolding headerByte
 returns c =
-    let z = c .before .before .before in
+    let z = c .before .before .before .before in
     sym (first-is (headerByte (now (z .before .before .args .bundle))) 56 0 (z .loop .i) (search needs) (search needs) (λ k _. z .loop .inv .1 k)
-    (λ _. ne-eqb _ _ (λ e. c .if1 .taken (c .before .byte-at .ensures ∙ e))))
+    (λ _. ne-eqb _ _ (λ e. c .if1 .taken (c .before .before .byte-at .ensures ∙ e ∙ sym (c .before .header-byte .ensures)))))
 
 add-i : tie.Need-add-i Inv-loop μ-loop
 add-i c = search needs
@@ -49,8 +44,10 @@ loop-less : tie.Need-loop-less Inv-loop μ-loop
 loop-less c = search needs
 
 loop-again : tie.Need-loop-again Inv-loop μ-loop
-unfolding headerByte header bytesOf
-loop-again c = (search needs, below-more _ _ (c .before .before .before .loop .inv .1) (eq-eqb _ _ (sym (c .before .byte-at .ensures) ∙ c .if1 .left)))
+unfolding headerByte
+loop-again c =
+    let z = c .before .before .before .before in
+    (search needs, below-more _ _ (z .loop .inv .1) (eq-eqb _ _ (sym (c .before .before .byte-at .ensures) ∙ c .if1 .left ∙ c .before .header-byte .ensures)))
 
 returns-2 : tie.Need-returns-2 Inv-loop μ-loop
 returns-2 c =
@@ -66,8 +63,7 @@ first-difference-spec =
     loop-holds
     cast-byte-at
     byte-at-requires
-    cast-if1
-    array-read-if1
+    header-byte-requires
     returns
     add-i
     loop-less
