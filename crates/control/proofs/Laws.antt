@@ -30,6 +30,13 @@ high-nibble v f = mod-eq-of-lt (omega (arith, f .fits))
 pub next-code : (c v : ℕ) → Fits w8 v → v * 8 + c % 8 ≡ cutoffOf (fcHigh v) (cutoffLow c)
 next-code c v f = rw (byte v f, lowest 3 c)
 
+-- ---- the displacement, from the floats that the code works out
+
+pub displacement-told : (step : ℤ) {limit x y z : Float} {d : ℤ} → limit ≡ ofInt binary32 (pos 57) → x ≡ ofInt binary32 step
+    → y ≡ roundOf binary32 (mul binary32 x FILTER-CUTOFF-STEP-CHARGE-GAIN) → z ≡ clampOf y (neg limit) limit → d ≡ toSigned 15 z → d ≡ displacementOf step
+unfolding displacementOf
+displacement-told step l p q r s = rw (s, r, q, p, l)
+
 -- ---- signed sums: they fit an i32, and a number read back from its bits is the number
 
 mag-sum : (a : ℕ) (z : ℤ) → mag (pos a +ℤ z) ≤ a + mag z
@@ -44,15 +51,7 @@ mag-neg : (b : ℕ) → mag (negℤ (pos b)) ≤ b
 mag-neg zero = omega arith
 mag-neg (suc b) = omega arith
 
--- ---- the displacement, from the floats that the code works out
-
-pub displacement-told : (step : ℤ) {limit x y z : Float} {d : ℤ} → limit ≡ ofInt binary32 (pos 57) → x ≡ ofInt binary32 step
-    → y ≡ roundOf binary32 (mul binary32 x FILTER-CUTOFF-STEP-CHARGE-GAIN) → z ≡ clampOf y (neg limit) limit → d ≡ toSigned 15 z → d ≡ displacementOf step
-unfolding displacementOf
-displacement-told step l p q r s = rw (s, r, q, p, l)
-
--- ---- the step from one code to another
-
+-- the step from one code to another
 module _ (a b : ℕ) (fa : Fits w16 a) (fb : Fits w16 b) where
   codes : toZ w32 a -ℤ toZ w32 b ≡ pos a -ℤ pos b
   codes = rw (toZ-pos w32 a (omega (arith, fa .fits)), toZ-pos w32 b (omega (arith, fb .fits)))
@@ -64,8 +63,7 @@ module _ (a b : ℕ) (fa : Fits w16 a) (fb : Fits w16 b) where
   unfolding stepOf
   step-is = toZ-ofZ w32 (toZ w32 a -ℤ toZ w32 b) step-fits ∙ codes
 
--- ---- a code and a displacement
-
+-- a code and a displacement
 module _ (cutoff : ℕ) (d : ℤ) (fc : Fits w16 cutoff) (f : SFits w16 d) where
   wide : SFits w32 d
   wide = record { sfits = omega (arith, f .sfits) }

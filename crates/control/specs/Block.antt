@@ -29,9 +29,11 @@ validRegisters r =
 unfoldable pub finiteF32 : Float → Bool
 finiteF32 x = fits binary32 x && finite x
 
+-- The three floats finite.
 unfoldable pub finiteFloats : IntegratorState → Bool
 finiteFloats i = finiteF32 (i .«band_state») && finiteF32 (i .«low_state») && finiteF32 (i .«filter_source_energy»)
 
+-- What document 01 asks of a state.
 unfoldable pub validOf : State → Bool
 validOf s = validRegisters (s .registers) && finiteFloats (s .integrator)
 

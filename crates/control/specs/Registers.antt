@@ -12,7 +12,7 @@ use Rattle.control.specs.declared.State.{State}
 
 -- ---- the data sheet
 
--- The number that the width bits from bit low up have.
+-- The width bits from bit low up, as a number.
 abbrev pub field : ℕ → ℕ → ℕ → ℕ
 field low width v = v / 2 ^ low % 2 ^ width
 
@@ -38,7 +38,7 @@ modeBits v = field 4 4 v
 abbrev pub volumeBits : ℕ → ℕ
 volumeBits v = field 0 4 v
 
--- The cutoff of 11 bits: its bits 10..3 and its bits 2..0.
+-- The cutoff, a code of 11 bits, from its bits 10..3 and its bits 2..0; and the two parts of a code.
 abbrev pub cutoffOf : ℕ → ℕ → ℕ
 cutoffOf high low = high * 8 + low
 
@@ -69,7 +69,7 @@ displacedOf cutoff displacement =
 abbrev pub effectiveCutoffOf : State → ℕ
 effectiveCutoffOf s = displacedOf (s .registers .cutoff) (s .registers .«cutoff_dac_displacement_codes»)
 
--- ---- the starting value
+-- ---- the starting value: all zero
 
 abbrev pub startingRegisters : FilterRegisters
 startingRegisters =
@@ -144,7 +144,7 @@ writeCutoffLowOf s value =
 abbrev pub previousCutoffOf : FilterRegisters → ℕ
 previousCutoffOf r = cond (r .«cutoff_low_pending») (r .«cutoff_write_base») (r .cutoff)
 
--- The base stays.
+-- The displacement follows from the step. The base stays.
 abbrev pub writeCutoffHighOf : State → ℕ → State
 writeCutoffHighOf s value =
     let r = s .registers in
@@ -153,6 +153,7 @@ writeCutoffHighOf s value =
     let pending = false in
     withCutoff s next displacement (r .«cutoff_write_base») pending
 
+-- Two nibbles are replaced.
 abbrev pub writeSignalRoutingOf : State → ℕ → State
 writeSignalRoutingOf s value = withNibbles s (resonanceBits value) (routingBits value) (s .registers .mode) (s .registers .volume)
 

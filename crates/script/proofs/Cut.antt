@@ -128,6 +128,17 @@ unfolding slicesIn
 length-slices zero b = refl
 length-slices (suc n) b = ap suc (length-slices n (drop 12 b))
 
+length-events : (bs : List (List ℕ)) → allReadable bs ≡ true → length (eventsIn bs) ≡ length bs
+unfolding allReadable eventsIn
+length-events [] h = refl
+length-events (b ∷ bs) h =
+    let r = both (isReadable (eventOf b)) (allReadable bs) h in
+    one-more (eventOf b) (eventsIn bs) (r .0) ∙ ap suc (length-events bs (r .1))
+  where
+    one-more : (d : Decoded) (es : List Event) → isReadable d ≡ true → length (consOf d es) ≡ suc (length es)
+    one-more (Readable e) es h = refl
+    one-more Unreadable es h = absurd (true≢false (sym h))
+
 -- what a well-formed script has
 pub record Header (s : List ℕ) : Type 0 where
   pub few : countOf s ≤ 65536
@@ -151,11 +162,15 @@ header s h =
       readable = r .1;
     }
 
+-- As many events as its count says.
+pub events-count : (s : List ℕ) → wellFormed s ≡ true → length (eventsOf s) ≡ countOf s
+events-count s h = length-events (slicesOf s) (header s h .readable) ∙ length-slices (countOf s) (drop 8 s)
+
 pub record Cut (s : List ℕ) (pieces : List (List (List ℕ))) : Type 0 where
   pub each : AllWellFormed (map scriptOf pieces)
   pub whole : joined (map eventsOf (map scriptOf pieces)) ≡ eventsOf s
 
--- THE CUT: for every well-formed script and every list of pieces, empty ones too, that are its events in a row.
+-- For every well-formed script, and every list of pieces, empty ones too, that are its events in a row.
 pub cut : (s : List ℕ) → wellFormed s ≡ true → (pieces : List (List (List ℕ))) → joined pieces ≡ slicesOf s → Cut s pieces
 cut s h pieces e =
     let k = header s h in

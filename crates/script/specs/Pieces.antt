@@ -16,6 +16,7 @@ joined (x ∷ xs) = x ++ joined xs
 unfoldable pub scriptOf : List (List ℕ) → List ℕ
 scriptOf bs = bytesOf 4 (length bs) ++ bytesOf 4 8 ++ joined bs
 
+-- Each of some scripts is well-formed.
 abbrev pub AllWellFormed : List (List ℕ) → Type 0
 AllWellFormed [] = Unit {0}
 AllWellFormed (s ∷ ss) = (wellFormed s ≡ true) × AllWellFormed ss

@@ -44,12 +44,14 @@ unfoldable pub slicesIn : ℕ → List ℕ → List (List ℕ)
 slicesIn zero b = []
 slicesIn (suc n) b = take 12 b ∷ slicesIn n (drop 12 b)
 
+-- The count that the header says, and the bytes of each event after the header.
 abbrev pub countOf : List ℕ → ℕ
 countOf s = u32At s 0
 
 abbrev pub slicesOf : List ℕ → List (List ℕ)
 slicesOf s = slicesIn (countOf s) (drop 8 s)
 
+-- Whether each can be read.
 abbrev pub isReadable : Decoded → Bool
 isReadable (Readable e) = true
 isReadable Unreadable = false
@@ -58,6 +60,7 @@ unfoldable pub allReadable : List (List ℕ) → Bool
 allReadable [] = true
 allReadable (b ∷ bs) = isReadable (eventOf b) && allReadable bs
 
+-- The events that can be read, in order: all of them in a well-formed script.
 abbrev pub consOf : Decoded → List Event → List Event
 consOf (Readable e) es = e ∷ es
 consOf Unreadable es = es
@@ -92,9 +95,10 @@ headerOk s = leb (countOf s) 65536 && eqb (u32At s 4) 8 && eqb (length s) (8 + 1
 unfoldable pub wellFormed : List ℕ → Bool
 wellFormed s = headerOk s && allReadable (slicesOf s)
 
--- Of count events in these slices.
+-- The check of count events in these slices.
 unfoldable pub tallyOf : ℕ → List (List ℕ) → Checked
 tallyOf count bs = cond (allReadable bs) (WellFormed count (samplesOf (eventsIn bs))) (Refused Script)
 
+-- The numbers of events and of samples, or refusal 7.
 unfoldable pub checkOf : List ℕ → Checked
 checkOf s = cond (wellFormed s) (WellFormed (countOf s) (samplesOf (eventsOf s))) (Refused Script)

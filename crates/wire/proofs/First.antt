@@ -1,7 +1,7 @@
 -- Laws of `first`, and of the entries that do not lie whole in the bytes.
 use Prim.Native.Nat.{ℕ, zero, suc, _+_, _-_, _*_, _≤_, _<_}
-use mathlib.Core.Path.{_≡_, refl, ap, sym, subst, _∙_}
-use mathlib.Core.Bool.{Bool, true, false, cond}
+use mathlib.Core.Path.{_≡_, refl, ap, subst, _∙_}
+use mathlib.Core.Bool.{Bool, true, false, not, cond}
 use mathlib.Core.Logic.{⊎-elim}
 use mathlib.Core.List.{List}
 use native.Mathlib.Omega.{arith}
@@ -9,9 +9,9 @@ use native.Mathlib.Nat.{le-antisymm, eq-or-lt-of-le}
 use lib.Dec.{leb}
 use lib.ListN.{length}
 use borrow.Author.Tests.{leb-true, leb-false}
-use Rattle.wire.specs.Wire.{usable}
-use Rattle.wire.specs.First.{first, usableEntry, firstUnusable}
-use Rattle.wire.proofs.Laws.{le-or-lt, numberAt-out}
+use Rattle.wire.specs.Wire.{usable, usableAt}
+use Rattle.wire.specs.First.{first, usableEntry, every, blockUsable, firstUnusable}
+use Rattle.wire.proofs.Laws.{le-or-lt, both, numberAt-out}
 
 -- it lies in the run or at its end
 pub first-ge : (ok : ℕ → Bool) (n i : ℕ) → i ≤ first ok n i
@@ -81,3 +81,42 @@ module _ (s : List ℕ) (from n m : ℕ) (h : length s < from + 4 * n + 4) (l : 
       first-is ok m 0 m (omega arith) (omega arith)
       (λ (k : ℕ) g u. ⊎-elim (λ (a : n ≤ k). usable-past s from k (omega arith)) (λ (b : k < n). first-before ok n 0 k g (omega arith)) (le-or-lt n k))
       (λ u. absurd (omega arith))
+
+-- What the entries are where none is found, and where one is.
+module _ (s : List ℕ) (from n : ℕ) where
+  pub none-unusable : n ≤ firstUnusable s from n → (k : ℕ) → k < n → usableAt s (from + 4 * k) ≡ true
+  unfolding usableEntry
+  none-unusable h k l = first-before (usableEntry s from) n 0 k (omega arith) (omega arith)
+
+  pub one-unusable : firstUnusable s from n < n → usableAt s (from + 4 * firstUnusable s from n) ≡ false
+  unfolding usableEntry
+  one-unusable h = first-fails (usableEntry s from) n 0 (omega arith)
+
+  pub all-usable : ((k : ℕ) → k < n → usableAt s (from + 4 * k) ≡ true) → firstUnusable s from n ≡ n
+  unfolding usableEntry
+  all-usable h = first-is (usableEntry s from) n 0 n (omega arith) (omega arith) (λ k _. h k) (λ l. absurd (omega arith))
+
+-- ---- blocks
+
+every-true : (ok : ℕ → Bool) (n : ℕ) → every ok n ≡ true → (k : ℕ) → k < n → ok k ≡ true
+unfolding every
+every-true ok zero e k l = absurd (omega arith)
+every-true ok (suc n) e k l =
+    let w = both (every ok n) (ok n) e in
+    ⊎-elim (λ (h : n ≤ k). let q : k ≡ n = omega arith in ap ok q ∙ w .1) (λ (h : k < n). every-true ok n (w .0) k h) (le-or-lt n k)
+
+-- a usable block at entry i: there are 64 left, and where the entries before i are usable so are those before i + 64
+module _ (s : List ℕ) (from i left : ℕ) (e : blockUsable s (from + 4 * i) left ≡ true) where
+  pub block-fits : 64 ≤ left
+  unfolding blockUsable
+  block-fits = leb-true 64 left (both (leb 64 left) (every (usableEntry s (from + 4 * i)) 64) e .0)
+
+  pub block-more : ((k : ℕ) → k < i → usableEntry s from k ≡ true) → (k : ℕ) → k < i + 64 → usableEntry s from k ≡ true
+  unfolding blockUsable usableEntry
+  block-more b k l =
+      ⊎-elim
+      (λ (h : i ≤ k).
+      let q : from + 4 * i + 4 * (k - i) ≡ from + 4 * k = omega arith in
+      rw q at (every-true (usableEntry s (from + 4 * i)) 64 (both (leb 64 left) (every (usableEntry s (from + 4 * i)) 64) e .1) (k - i) (omega arith)))
+      (b k)
+      (le-or-lt i k)

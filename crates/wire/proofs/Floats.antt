@@ -1,20 +1,21 @@
 -- Bit patterns of an f32: which are a NaN's, which are finite, and a float in bytes there and back.
-use Prim.Native.Nat.{ℕ, zero, suc, _+_, _/_, _%_, _^_, _≤_, _<_}
+use Prim.Native.Nat.{ℕ, zero, suc, _+_, _*_, _/_, _%_, _^_, _≤_, _<_}
 use mathlib.Core.Path.{_≡_, refl, ap, sym, subst, _∙_}
 use mathlib.Core.Bool.{Bool, true, false, not, cond}
 use mathlib.Core.Logic.{⊎-elim}
 use mathlib.Core.List.{List}
 use native.Mathlib.Omega.{arith}
+use native.Mathlib.Nat.{add-zero}
 use lib.Dec.{T, leb, eqb}
 use lib.ListN.{length, take, drop}
 use lib.Ieee as Ieee
 use lib.Ieee.{Float, nan, inf, fin, binary32, odd, ofFields, ofBits, toBits, nanBits, isNan, fits}
-use lib.Ieee.Bits.{ofBits-toBits, toBits-ofBits, toBits-lt, nanBits-is, nanBits-above, is-true}
+use lib.Ieee.Bits.{ofBits-toBits, toBits-ofBits, toBits-lt, nanBits-is, nanBits-above}
 use lib.Ieee.Compare.{differs-from-itself}
 use lib.Ieee.Scale.{finite}
 use borrow.Author.Tests.{lt-ltb, le-ltb, ltb-true, leb-true, eq-eqb, ne-eqb}
-use Rattle.wire.specs.Wire.{Bytes, u32At, f32At, usable, finiteBits, floatBytes, putAt}
-use Rattle.wire.proofs.Laws.{le-or-lt, numberAt-lt, numberAt-put, bytesOf-numberAt}
+use Rattle.wire.specs.Wire.{Bytes, u32At, f32At, usable, finiteBits, floatBytes, putAt, rows}
+use Rattle.wire.proofs.Laws.{le-or-lt, length-bytesOf, numberAt-lt, numberAt-bytesOf, numberAt-put, numberAt-rows, bytesOf-numberAt}
 
 no : {t : Bool} → t ≡ false → T (not t)
 no e = subst (λ (t : Bool). T (not t)) (sym e) tt
@@ -93,6 +94,12 @@ finiteBits-toBits x f = finiteBits-is (toBits binary32 x) ∙ ap finite (ofBits-
 
 pub f32At-put : (s : List ℕ) (p : ℕ) (x : Float) → p + 4 ≤ length s → T (fits binary32 x) → f32At (putAt s p (floatBytes x)) p ≡ x
 f32At-put s p x h f = ap (ofBits binary32) (numberAt-put 4 s p (toBits binary32 x) h (toBits-lt binary32 x f)) ∙ ofBits-toBits binary32 x f
+
+-- entry k of a table of floats
+pub f32At-rows : (x : ℕ → Float) (n k : ℕ) → k < n → T (fits binary32 (x k)) → f32At (rows (λ (i : ℕ). floatBytes (x i)) n) (4 * k) ≡ x k
+f32At-rows x n k l f =
+    let e = numberAt-rows (λ (i : ℕ). floatBytes (x i)) 4 (λ i. length-bytesOf 4 (toBits binary32 (x i))) 4 n k 0 l (omega arith) in
+    ap (ofBits binary32) (rw add-zero at e ∙ numberAt-bytesOf 4 (toBits binary32 (x k)) (toBits-lt binary32 (x k) f)) ∙ ofBits-toBits binary32 (x k) f
 
 module _ (s : List ℕ) (p : ℕ) (b : Bytes s) (h : T (not (nanBits binary32 (u32At s p)))) where
   pub toBits-f32At : toBits binary32 (f32At s p) ≡ u32At s p

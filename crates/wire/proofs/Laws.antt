@@ -2,17 +2,19 @@
 use Prim.Native.Nat.{ℕ, zero, suc, _+_, _-_, _*_, _/_, _%_, _^_, _≤_, _<_}
 use mathlib.Core.Path.{_≡_, refl, ap, sym, subst, _∙_}
 use mathlib.Core.Logic.{_⊎_, inl, inr, ⊎-elim}
-use mathlib.Core.Bool.{Bool, true, false}
+use mathlib.Core.Bool.{Bool, true, false, not, _&&_}
 use mathlib.Core.List.{List, [], _∷_, _++_, append-assoc, append-nil}
 use native.Mathlib.Omega.{arith}
 use native.Mathlib.Numerals.{add-one}
-use native.Mathlib.Nat.{add-assoc, add-zero, pow-suc, mod-one, mod-eq-of-lt, one-le-pow}
+use native.Mathlib.Nat.{add-assoc, add-zero, mul-zero, mul-suc, mul-le-mul-left, pow-suc, mod-one, mod-eq-of-lt, one-le-pow}
 use lib.Arith.{mod-mul}
-use lib.Dec.{leb, lit<}
-use lib.ListN.{length, getD, take, drop, length-append, length-take, length-drop, take-append-drop, drop-of-length-le, List·getD-eq-default}
-use lib.Seq.{length-take-le, take-all, drop-cons, take-append-le, drop-append-le, drop-append-add, take-at, drop-at, drop-drop, getD-take, getD-drop, sets, sets-eq, paste, take-length}
+use lib.Dec.{T, leb, lit<}
+use lib.ListN.{length, take, drop, length-append, length-take, length-drop, take-append-drop, drop-of-length-le, List·getD-eq-default}
+use lib.Seq.{length-take-le, take-all, drop-cons, take-append-le, drop-append-le, take-at, drop-at, drop-drop, getD-take, getD-drop, sets, sets-eq, paste, take-length}
 use borrow.Author.Tests.{le-leb, lt-leb, leb-true, leb-false}
-use Rattle.wire.specs.Wire.{Bytes, little, bytesOf, byteAt, numberAt, putAt}
+use Rattle.wire.specs.Wire.{Bytes, little, bytesOf, byteAt, numberAt, putAt, rows}
+
+-- ---- cases
 
 pub le-or-lt : (a b : ℕ) → (a ≤ b) ⊎ (b < a)
 le-or-lt a b = go (leb a b) refl
@@ -21,6 +23,13 @@ le-or-lt a b = go (leb a b) refl
     go true e = inl (leb-true a b e)
     go false e = inr (leb-false a b e)
 
+pub both : (a b : Bool) → a && b ≡ true → (a ≡ true) × (b ≡ true)
+both true b e = (refl, e)
+both false b e = (e, absurd (subst (λ (t : Bool). T (not t)) e tt))
+
+zero<256 : 0 < 256
+zero<256 = lit< tt
+
 -- ---- a number and its bytes
 
 pub length-bytesOf : (n v : ℕ) → length (bytesOf n v) ≡ n
@@ -28,17 +37,14 @@ unfolding bytesOf
 length-bytesOf zero v = refl
 length-bytesOf (suc n) v = ap suc (length-bytesOf n (v / 256))
 
-zero<256 : 0 < 256
-zero<256 = lit< tt
-
 pub little-bytesOf : (n v : ℕ) → little (bytesOf n v) ≡ v % 256 ^ n
-unfolding bytesOf little
+unfolding bytesOf
 little-bytesOf zero v = sym (mod-one v)
 little-bytesOf (suc n) v =
     rw (little-bytesOf n (v / 256), pow-suc) (omega (arith, mod-mul v (one-le-pow n 256 zero<256) zero<256))
 
 pub bytesOf-little : (bs : List ℕ) → Bytes bs → bytesOf (length bs) (little bs) ≡ bs
-unfolding bytesOf little
+unfolding bytesOf
 bytesOf-little [] h = refl
 bytesOf-little (b ∷ bs) h =
     let l : b < 256 = h 0 in
@@ -47,7 +53,6 @@ bytesOf-little (b ∷ bs) h =
     rw (low, high, bytesOf-little bs (λ i. h (suc i)))
 
 pub little-lt : (bs : List ℕ) → Bytes bs → little bs < 256 ^ length bs
-unfolding little
 little-lt [] h = lit< tt
 little-lt (b ∷ bs) h = rw pow-suc (omega (arith, h 0, little-lt bs (λ i. h (suc i))))
 
@@ -86,15 +91,15 @@ numberAt-lt n s p b =
     (λ (h : length s < p + n). rw (numberAt-out n s p h) (one-le-pow n 256 zero<256))
     (le-or-lt (p + n) (length s))
 
--- one byte, and one byte before others
+-- a byte is a number of one byte, so the laws of numbers serve it too
 pub numberAt-one : (s : List ℕ) (p : ℕ) → numberAt 1 s p ≡ byteAt s p
-unfolding little
 numberAt-one s p =
     ⊎-elim
     (λ (h : p + 1 ≤ length s). rw (numberAt-in 1 s p h, drop-cons s p 0 (omega arith)) (add-zero (byteAt s p)))
     (λ (h : length s < p + 1). numberAt-out 1 s p h ∙ sym (List·getD-eq-default s 0 {n = p} (omega arith)))
     (le-or-lt (p + 1) (length s))
 
+-- the bytes of a number one by one
 part-cons : (n : ℕ) (s : List ℕ) (p : ℕ) → p < length s → take (suc n) (drop p s) ≡ byteAt s p ∷ take n (drop (p + 1) s)
 part-cons n s p h = rw (drop-cons s p 0 h, add-one)
 
@@ -104,10 +109,6 @@ two-bytes s p h = rw (numberAt-in 2 s p h, part-cons 1 s p (omega arith), part-c
 pub four-bytes : (s : List ℕ) (p : ℕ) → p + 4 ≤ length s → little (byteAt s p ∷ byteAt s (p + 1) ∷ byteAt s (p + 2) ∷ byteAt s (p + 3) ∷ []) ≡ numberAt 4 s p
 four-bytes s p h =
     rw (numberAt-in 4 s p h, part-cons 3 s p (omega arith), part-cons 2 s (p + 1) (omega arith), add-assoc, part-cons 1 s (p + 2) (omega arith), add-assoc, part-cons 0 s (p + 3) (omega arith))
-
-pub numberAt-suc : (n : ℕ) (s : List ℕ) (p : ℕ) → p + suc n ≤ length s → numberAt (suc n) s p ≡ byteAt s p + 256 * numberAt n s (p + 1)
-unfolding little
-numberAt-suc n s p h = rw (numberAt-in (suc n) s p h, numberAt-in n s (p + 1) (omega arith), drop-cons s p 0 (omega arith), add-one)
 
 -- a number in the first of two lists, and in the second
 pub numberAt-first : (n : ℕ) (a b : List ℕ) (p : ℕ) → p + n ≤ length a → numberAt n (a ++ b) p ≡ numberAt n a p
@@ -149,19 +150,22 @@ module _ (s : List ℕ) (p : ℕ) (vs : List ℕ) where
   unfolding putAt
   putAt-out h = rw (lt-leb _ _ h)
 
-  pub length-putAt : length (putAt s p vs) ≡ length s
-  length-putAt =
+  -- what holds of the list with vs written, and of the list as it is, holds of what is left
+  putAt-either : (P : List ℕ → Type 0) → (p + length vs ≤ length s → P (take p s ++ vs ++ drop (p + length vs) s)) → P s → P (putAt s p vs)
+  putAt-either P f g =
       ⊎-elim
-      (λ (h : p + length vs ≤ length s). rw (putAt-in h) (simp (length-append, length-drop) (omega (arith, length-take-le p s (omega arith)))))
-      (λ (h : length s < p + length vs). ap length (putAt-out h))
+      (λ (h : p + length vs ≤ length s). rw (putAt-in h) (f h))
+      (λ (h : length s < p + length vs). rw (putAt-out h) g)
       (le-or-lt (p + length vs) (length s))
 
+  pub length-putAt : length (putAt s p vs) ≡ length s
+  length-putAt =
+      putAt-either (λ t. length t ≡ length s)
+      (λ h. simp (length-append, length-drop) (omega (arith, length-take-le p s (omega arith))))
+      refl
+
 pub putAt-nil : (s : List ℕ) (p : ℕ) → putAt s p [] ≡ s
-putAt-nil s p =
-    ⊎-elim
-    (λ (h : p + 0 ≤ length s). putAt-in s p [] h ∙ rw (append-nil, add-zero) (take-append-drop p s))
-    (λ (h : length s < p + 0). putAt-out s p [] h)
-    (le-or-lt (p + 0) (length s))
+putAt-nil s p = putAt-either s p [] (λ t. t ≡ s) (λ _. rw (append-nil, add-zero) (take-append-drop p s)) refl
 
 pub putAt-whole : (s vs : List ℕ) → length vs ≡ length s → putAt s 0 vs ≡ vs
 putAt-whole s vs e = putAt-in s 0 vs (omega arith) ∙ rw (drop-of-length-le s {i = 0 + length vs} (omega arith)) (append-nil vs)
@@ -190,20 +194,21 @@ paste-putAt s p vs h = rw take-length (sym (putAt-in s p vs h))
 -- ---- reading what was written, and beside it
 
 module _ (s : List ℕ) (p : ℕ) (vs : List ℕ) where
-  -- the bytes before the written part, the part, and those after it
+  -- what lies before the written part, and after it
   pub take-putAt : take p (putAt s p vs) ≡ take p s
   take-putAt =
-      ⊎-elim
-      (λ (h : p + length vs ≤ length s). rw (putAt-in s p vs h, append-assoc) (take-at (take p s) (vs ++ drop (p + length vs) s) p (length-take-le p s (omega arith))))
-      (λ (h : length s < p + length vs). rw (putAt-out s p vs h))
-      (le-or-lt (p + length vs) (length s))
+      putAt-either s p vs (λ t. take p t ≡ take p s)
+      (λ h. rw append-assoc (take-at (take p s) (vs ++ drop (p + length vs) s) p (length-take-le p s (omega arith))))
+      refl
+
+  front : p + length vs ≤ length s → length (take p s ++ vs) ≡ p + length vs
+  front h = omega (arith, length-append (take p s) vs, length-take-le p s (omega arith))
 
   pub drop-putAt : drop (p + length vs) (putAt s p vs) ≡ drop (p + length vs) s
   drop-putAt =
-      ⊎-elim
-      (λ (h : p + length vs ≤ length s). rw (putAt-in s p vs h) (drop-at (take p s ++ vs) (drop (p + length vs) s) (p + length vs) (omega (arith, length-append (take p s) vs, length-take-le p s (omega arith)))))
-      (λ (h : length s < p + length vs). rw (putAt-out s p vs h))
-      (le-or-lt (p + length vs) (length s))
+      putAt-either s p vs (λ t. drop (p + length vs) t ≡ drop (p + length vs) s)
+      (λ h. drop-at (take p s ++ vs) (drop (p + length vs) s) (p + length vs) (front h))
+      refl
 
   -- a number in the written part, before it and after it
   module _ (n : ℕ) where
@@ -218,19 +223,41 @@ module _ (s : List ℕ) (p : ℕ) (vs : List ℕ) where
 
     pub numberAt-after : (q : ℕ) → p + length vs ≤ q → numberAt n (putAt s p vs) q ≡ numberAt n s q
     numberAt-after q l =
-        ⊎-elim
-        (λ (h : p + length vs ≤ length s).
         let m = p + length vs in
         let e : m + (q - m) ≡ q = omega arith in
-        subst (λ (r : ℕ). numberAt n (putAt s p vs) r ≡ numberAt n s r) e
-        (sym (numberAt-drop n (putAt s p vs) m (q - m) (omega (arith, length-putAt s p vs)))
-        ∙ ap (λ (t : List ℕ). numberAt n t (q - m)) drop-putAt
-        ∙ numberAt-drop n s m (q - m) h))
-        (λ (h : length s < p + length vs). rw (putAt-out s p vs h))
-        (le-or-lt (p + length vs) (length s))
+        putAt-either s p vs (λ t. numberAt n t q ≡ numberAt n s q)
+        (λ h. rw e at (numberAt-second n (take p s ++ vs) (drop m s) m (q - m) (front h) ∙ numberAt-drop n s m (q - m) h))
+        refl
 
 -- a number that is written is read back
 pub numberAt-put : (n : ℕ) (s : List ℕ) (p v : ℕ) → p + n ≤ length s → v < 256 ^ n → numberAt n (putAt s p (bytesOf n v)) p ≡ v
 numberAt-put n s p v h l =
     let e = length-bytesOf n v in
     rw add-zero at (numberAt-written s p (bytesOf n v) n 0 (omega arith) (omega arith)) ∙ numberAt-bytesOf n v l
+
+-- ---- rows of w bytes each
+
+module _ (r : ℕ → List ℕ) (w : ℕ) (e : (k : ℕ) → length (r k) ≡ w) where
+  pub length-rows : (n : ℕ) → length (rows r n) ≡ w * n
+  unfolding rows
+  length-rows zero = sym (mul-zero w)
+  length-rows (suc n) = rw mul-suc (omega (arith, length-append (rows r n) (r n), length-rows n, e n))
+
+  -- a row more, right after n rows
+  pub rows-put : (s : List ℕ) (p n : ℕ) → p + w * (n + 1) ≤ length s → putAt (putAt s p (rows r n)) (p + w * n) (r n) ≡ putAt s p (rows r (n + 1))
+  unfolding rows
+  rows-put s p n h =
+      let h′ : p + (w * n + w) ≤ length s = rw (add-one, mul-suc) at h in
+      rw add-one (putAt-join s p (rows r n) (r n) (p + w * n) (ap (λ (k : ℕ). p + k) (length-rows n)) (omega (arith, e n)))
+
+  -- a number in row k
+  pub numberAt-rows : (m n k j : ℕ) → k < n → j + m ≤ w → numberAt m (rows r n) (w * k + j) ≡ numberAt m (r k) j
+  unfolding rows
+  numberAt-rows m zero k j h l = absurd (omega arith)
+  numberAt-rows m (suc n) k j h l =
+      ⊎-elim
+      (λ (g : n ≤ k). let q : k ≡ n = omega arith in rw q (numberAt-second m (rows r n) (r n) (w * n) j (length-rows n)))
+      (λ (g : k < n).
+      let b : w * k + w ≤ w * n = rw mul-suc at (mul-le-mul-left w g) in
+      numberAt-first m (rows r n) (r n) (w * k + j) (omega (arith, length-rows n)) ∙ numberAt-rows m n k j g l)
+      (le-or-lt n k)

@@ -2,3 +2,4 @@ pub mod Laws
 pub mod Floats
 pub mod Signed
 pub mod First
+pub mod Magnitude

@@ -1,6 +1,6 @@
 -- Signed numbers of 16 bits: what `signed16` and `bits16` ask, and a signed number in bytes there and back.
 use Prim.Native.Nat.{ℕ, zero, suc, _+_, _-_, _≤_, _<_}
-use mathlib.Core.Path.{_≡_, refl, ap, sym, subst, _∙_}
+use mathlib.Core.Path.{_≡_, refl, ap, subst, _∙_}
 use mathlib.Core.Bool.{Bool, true, false, not}
 use mathlib.Core.List.{List}
 use native.Mathlib.Omega.{arith}
@@ -11,7 +11,7 @@ use lib.Signed.{nonNeg, mag, leZ}
 use lib.ListN.{length, take, drop}
 use mir.Syntax.{w16}
 use mir.Val.{toZ, ofZ, Fits, SFits}
-use mir.ValLaws.{toZ-pos, toZ-ofZ, ofZ-toZ, ofZ-fits, toZ-fits}
+use mir.ValLaws.{toZ-pos, toZ-ofZ, ofZ-toZ, ofZ-fits}
 use borrow.Author.Tests.{le-ltb, leb-false}
 use Rattle.wire.specs.Wire.{Bytes, u16At, i16At, bytesOf, putAt}
 use Rattle.wire.proofs.Laws.{numberAt-lt, numberAt-put, bytesOf-numberAt}

@@ -51,14 +51,16 @@ f32At s p = ofBits binary32 (u32At s p)
 
 -- ---- patterns of an f32, with the sign's bit left out of account
 
--- A usable entry (document 01): finite and at most 1,024 in magnitude, whose bits are 0x4480_0000.
+-- A usable entry (document 01): finite and at most 1,024 in magnitude, by the bits, since 0x4480_0000 is 1,024. Magnitude.antt of proofs/
+-- shows the same of the float.
 unfoldable pub usable : ℕ → Bool
 usable b = leb (b % 2 ^ 31) 0x4480_0000
 
+-- The entry at p is usable.
 abbrev pub usableAt : List ℕ → ℕ → Bool
 usableAt s p = usable (u32At s p)
 
--- Finite: below the bits of the infinity.
+-- Finite: below the infinity's bits.
 unfoldable pub finiteBits : ℕ → Bool
 finiteBits b = ltb (b % 2 ^ 31) 0x7f80_0000
 
@@ -68,6 +70,15 @@ finiteBits b = ltb (b % 2 ^ 31) 0x7f80_0000
 abbrev pub floatBytes : Float → List ℕ
 floatBytes x = bytesOf 4 (toBits binary32 x)
 
+-- Four words side by side, as a sample has them.
+abbrev pub rowBytes : ℕ → ℕ → ℕ → ℕ → List ℕ
+rowBytes a b c d = bytesOf 4 a ++ bytesOf 4 b ++ bytesOf 4 c ++ bytesOf 4 d
+
 -- The list with vs from p on where they fit, and the list as it is where they do not.
 unfoldable pub putAt : List ℕ → ℕ → List ℕ → List ℕ
 putAt s p vs = cond (leb (p + length vs) (length s)) (take p s ++ vs ++ drop (p + length vs) s) s
+
+-- The bytes of n rows one after another, row k being r k: the entries of a curve, the samples of an output.
+unfoldable pub rows : (ℕ → List ℕ) → ℕ → List ℕ
+rows r zero = []
+rows r (suc n) = rows r n ++ r n

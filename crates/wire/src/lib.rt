@@ -1,14 +1,14 @@
 // Little-endian numbers and floats in lent bytes. Every public function is total: what is not there reads as 0,
 // and what does not fit is not written.
 ghost use mathlib.Core.Path.{_≡_};
-ghost use mathlib.Core.List.{[], _∷_, _++_};
-ghost use Prim.Native.Nat.{_+_, _*_, _-_, _<_, _≤_};
+ghost use mathlib.Core.List.{[], _∷_};
+ghost use Prim.Native.Nat.{_+_, _*_, _≤_};
 ghost use lib.ListN.{length};
 ghost use lib.Ieee.{binary32, ofBits, toBits};
 ghost use mir.Syntax.{w16};
 ghost use mir.Val.{toZ, ofZ};
-ghost use Rattle.wire.specs.Wire.{little, byteAt, u16At, i16At, u32At, f32At, usable, usableAt, finiteBits, bytesOf, floatBytes, putAt};
-ghost use Rattle.wire.specs.First.{firstUnusable};
+ghost use Rattle.wire.specs.Wire.{little, byteAt, u16At, i16At, u32At, f32At, usable, usableAt, finiteBits, bytesOf, floatBytes, rowBytes, putAt};
+ghost use Rattle.wire.specs.First.{firstUnusable, blockUsable};
 
 // ---- numbers and their bits
 
@@ -52,13 +52,14 @@ pub fn float_bits(x: f32) -> u32
     if x == x { f32::to_bits(x) } else { 0x7fc0_0000 }
 }
 
-// Finite and at most 1,024 in magnitude.
+// Whether a pattern is a usable entry's: finite and at most 1,024 in magnitude.
 pub fn usable(bits: u32) -> bool
     ensures { λ r. ⌜ r ≡ usable bits ⌝ }
 {
     bits % 0x8000_0000 <= 0x4480_0000
 }
 
+// Whether a pattern is a finite float's.
 pub fn finite_bits(bits: u32) -> bool
     ensures { λ r. ⌜ r ≡ finiteBits bits ⌝ }
 {
@@ -67,6 +68,7 @@ pub fn finite_bits(bits: u32) -> bool
 
 // ---- reading
 
+// The number of two bytes, and of four.
 fn join2(a: u8, b: u8) -> u16
     ensures { λ r. ⌜ r ≡ little (a ∷ b ∷ []) ⌝ }
 {
@@ -114,6 +116,7 @@ pub fn u16_at(s: &[u8], p: usize) -> u16
     0
 }
 
+// The same two bytes as a signed number.
 pub fn i16_at(s: &[u8], p: usize) -> i16
     ensures { λ r. ⌜ r ≡ i16At (now (s .entry)) p ⌝ }
 {
@@ -132,12 +135,14 @@ pub fn u32_at(s: &[u8], p: usize) -> u32
     0
 }
 
+// The same four bytes as a float, whatever their pattern.
 pub fn f32_at(s: &[u8], p: usize) -> f32
     ensures { λ r. ⌜ r ≡ f32At (now (s .entry)) p ⌝ }
 {
     f32_of(u32_at(s, p))
 }
 
+// Whether the entry at a place is usable. One that is not all there reads as 0, and is.
 pub fn usable_at(s: &[u8], p: usize) -> bool
     ensures { λ r. ⌜ r ≡ usableAt (now (s .entry)) p ⌝ }
 {
@@ -146,14 +151,33 @@ pub fn usable_at(s: &[u8], p: usize) -> bool
 
 // ---- the first unusable entry
 
-// Of n entries that lie whole in the bytes.
+// Whether 64 entries are left at p, and each of the 64 is usable. With no way out of the loop the compiler makes vector code of it.
+fn block_usable(s: &[u8], p: usize, left: usize) -> bool
+    requires { ⌜ p + 4 * left ≤ length (now s) ⌝ }
+    ensures { λ r. ⌜ r ≡ blockUsable (now (s .entry)) p left ⌝ }
+{
+    if left < 64 {
+        return false;
+    }
+    let mut all = true;
+    let mut j = 0;
+    while j < 64 {
+        all = all & usable(word(s, p + 4 * j));
+        j += 1;
+    }
+    all
+}
+
+// Of n entries that lie whole in the bytes: 64 at a time where they are usable, else one.
 fn scan(s: &[u8], from: usize, n: usize) -> usize
     requires { ⌜ from + 4 * n ≤ length (now s) ⌝ }
     ensures { λ r. ⌜ r ≡ firstUnusable (now (s .entry)) from n ⌝ }
 {
     let mut i = 0;
     while i < n {
-        if usable(word(s, from + 4 * i)) {
+        if block_usable(s, from + 4 * i, n - i) {
+            i += 64;
+        } else if usable(word(s, from + 4 * i)) {
             i += 1;
         } else {
             return i;
@@ -180,7 +204,7 @@ pub fn first_unusable(s: &[u8], from: usize, count: usize) -> usize
 
 // ---- writing
 
-// Four bytes where they fit: one store.
+// Four bytes where there is room: one store.
 fn store(s: &mut [u8], p: usize, v: u32)
     requires { ⌜ p + 4 ≤ length (now s) ⌝ }
     ensures { λ _. ⌜ now (s .exit) ≡ putAt (now (s .entry)) p (bytesOf 4 v) ⌝ }
@@ -191,7 +215,7 @@ fn store(s: &mut [u8], p: usize, v: u32)
     s[p + 3] = (v / 256 / 256 / 256 % 256) as u8;
 }
 
-// Writes bytes at a place where they fit.
+// Writes bytes at a place, where they fit.
 pub fn put(dst: &mut [u8], at: usize, src: &[u8])
     ensures { λ _. ⌜ now (dst .exit) ≡ putAt (now (dst .entry)) at (now (src .entry)) ⌝ }
 {
@@ -206,6 +230,7 @@ pub fn put(dst: &mut [u8], at: usize, src: &[u8])
     }
 }
 
+// Writes four bytes at a place, where they fit.
 pub fn put_u32(s: &mut [u8], p: usize, v: u32)
     ensures { λ _. ⌜ now (s .exit) ≡ putAt (now (s .entry)) p (bytesOf 4 v) ⌝ }
 {
@@ -216,15 +241,16 @@ pub fn put_u32(s: &mut [u8], p: usize, v: u32)
     }
 }
 
+// The same of a float's bits.
 pub fn put_f32(s: &mut [u8], p: usize, x: f32)
     ensures { λ _. ⌜ now (s .exit) ≡ putAt (now (s .entry)) p (floatBytes x) ⌝ }
 {
     put_u32(s, p, float_bits(x));
 }
 
-// Writes four words side by side, as a sample has them, where all sixteen bytes fit.
+// Writes four words side by side, as a sample has them, where the sixteen bytes fit.
 pub fn put_row(s: &mut [u8], p: usize, a: u32, b: u32, c: u32, d: u32)
-    ensures { λ _. ⌜ now (s .exit) ≡ putAt (now (s .entry)) p (bytesOf 4 a ++ bytesOf 4 b ++ bytesOf 4 c ++ bytesOf 4 d) ⌝ }
+    ensures { λ _. ⌜ now (s .exit) ≡ putAt (now (s .entry)) p (rowBytes a b c d) ⌝ }
 {
     if 16 <= s.len() {
         if p <= s.len() - 16 {

@@ -1,3 +1,4 @@
+-- A signed parameter is read as what its bits stand for, which `toZ-ofZ` turns into itself.
 use native.Mathlib.Omega.{arith}
 use mir.Syntax.{w16}
 use mir.ValLaws.{toZ-ofZ}

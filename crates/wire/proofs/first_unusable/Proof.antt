@@ -1,10 +1,11 @@
+-- Entries past those that lie whole in the bytes are usable, so the first unusable one is among these.
 use Prim.Native.Nat.{_-_, _/_}
-use lib.ListN.{length}
 use mathlib.Core.Path.{sym, _∙_}
 use native.Mathlib.Omega.{arith}
+use lib.ListN.{length}
 use denote.Ref.{now}
-use Rattle.wire.proofs.First.{found-inside, none-inside}
 use borrow.Author.Needs.{needs}
+use Rattle.wire.proofs.First.{found-inside, none-inside}
 use Rattle.wire.proofs.first_unusable.Statement.{statement}
 use Rattle.wire.proofs.first_unusable.Tie as tie
 

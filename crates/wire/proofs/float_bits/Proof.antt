@@ -1,6 +1,6 @@
 use lib.Ieee.{toBits}
-use Rattle.wire.proofs.Floats.{same-no-nan, unlike-nan}
 use borrow.Author.Needs.{needs}
+use Rattle.wire.proofs.Floats.{same-no-nan, unlike-nan}
 use Rattle.wire.proofs.float_bits.Statement.{statement}
 use Rattle.wire.proofs.float_bits.Tie as tie
 

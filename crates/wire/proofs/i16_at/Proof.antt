@@ -2,8 +2,8 @@ use mathlib.Core.Path.{ap, _∙_}
 use mir.Syntax.{w16}
 use mir.Val.{toZ}
 use mir.ValLaws.{toZ-ofZ}
-use Rattle.wire.specs.Wire.{i16At}
 use borrow.Author.Needs.{needs}
+use Rattle.wire.specs.Wire.{i16At}
 use Rattle.wire.proofs.i16_at.Statement.{statement}
 use Rattle.wire.proofs.i16_at.Tie as tie
 

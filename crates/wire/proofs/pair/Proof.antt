@@ -1,7 +1,7 @@
 use mathlib.Core.Path.{_∙_}
 use denote.Ref.{now}
-use Rattle.wire.proofs.Laws.{two-bytes}
 use borrow.Author.Needs.{needs}
+use Rattle.wire.proofs.Laws.{two-bytes}
 use Rattle.wire.proofs.pair.Statement.{statement}
 use Rattle.wire.proofs.pair.Tie as tie
 

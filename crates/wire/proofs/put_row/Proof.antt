@@ -1,11 +1,12 @@
+-- Each word joins those before it in one write.
 use Prim.Native.Nat.{_+_}
 use mathlib.Core.Path.{refl, sym}
-use native.Mathlib.Omega.{arith}
 use mathlib.Core.List.{_++_}
+use native.Mathlib.Omega.{arith}
 use denote.Ref.{now}
-use Rattle.wire.specs.Wire.{bytesOf}
-use Rattle.wire.proofs.Laws.{putAt-out, putAt-join}
 use borrow.Author.Needs.{needs}
+use Rattle.wire.specs.Wire.{bytesOf, rowBytes}
+use Rattle.wire.proofs.Laws.{putAt-out, putAt-join}
 use Rattle.wire.proofs.put_row.Statement.{statement}
 use Rattle.wire.proofs.put_row.Tie as tie
 
@@ -44,25 +45,21 @@ returns c =
     let w2 = w3 .before .before .before .before in
     let w1 = w2 .before .before .before .before in
     let a = w1 .before .before .before .before .before .args in
-    let s = now (a .s) in
+    let join = putAt-join (now (a .s)) (a .p) in
     let A = bytesOf 4 (a .a) in
     let B = bytesOf 4 (a .b) in
     let C = bytesOf 4 (a .c) in
     let D = bytesOf 4 (a .d) in
     rw (w4 .store4 .ensures, w3 .store3 .ensures, w2 .store2 .ensures, w1 .store .ensures)
-    (rw (putAt-join s (a .p) A B (a .p + 4) refl (omega arith), putAt-join s (a .p) (A ++ B) C (a .p + 8) refl (omega arith), putAt-join s (a .p) (A ++ B ++ C) D (a .p + 12) refl (omega arith)))
+    (rw (join A B (a .p + 4) refl (omega arith), join (A ++ B) C (a .p + 8) refl (omega arith), join (A ++ B ++ C) D (a .p + 12) refl (omega arith)))
 
 returns-2 : tie.Need-returns-2
 unfolding bytesOf
-returns-2 c =
-    let a = c .before .before .before .args in
-    sym (putAt-out (now (a .s)) (a .p) (bytesOf 4 (a .a) ++ bytesOf 4 (a .b) ++ bytesOf 4 (a .c) ++ bytesOf 4 (a .d)) (omega arith))
+returns-2 c = let a = c .before .before .before .args in sym (putAt-out (now (a .s)) (a .p) (rowBytes (a .a) (a .b) (a .c) (a .d)) (omega arith))
 
 returns-3 : tie.Need-returns-3
 unfolding bytesOf
-returns-3 c =
-    let a = c .before .before .args in
-    sym (putAt-out (now (a .s)) (a .p) (bytesOf 4 (a .a) ++ bytesOf 4 (a .b) ++ bytesOf 4 (a .c) ++ bytesOf 4 (a .d)) (omega arith))
+returns-3 c = let a = c .before .before .args in sym (putAt-out (now (a .s)) (a .p) (rowBytes (a .a) (a .b) (a .c) (a .d)) (omega arith))
 
 pub put-row-spec : {M : Type 1} → statement M
 put-row-spec =

@@ -1,10 +1,11 @@
+-- Four stores in a row are one write.
 use native.Mathlib.Omega.{arith}
 use native.Mathlib.Numerals.{add-one, add-two, add-three}
 use lib.ListN.{length-set}
 use denote.Ref.{now}
+use borrow.Author.Needs.{needs}
 use Rattle.wire.specs.Wire.{bytesOf}
 use Rattle.wire.proofs.Laws.{sets-putAt}
-use borrow.Author.Needs.{needs}
 use Rattle.wire.proofs.store.Statement.{statement}
 use Rattle.wire.proofs.store.Tie as tie
 
@@ -46,7 +47,7 @@ same-length c = search needs
 
 returns : tie.Need-returns
 unfolding bytesOf
-returns c = rw (add-one, add-two, add-three) (sets-putAt (now (c .args .s)) (c .args .p) (bytesOf 4 (c .args .v)) (c .pre))
+returns c = simp (add-one, add-two, add-three) (sets-putAt (now (c .args .s)) (c .args .p) (bytesOf 4 (c .args .v)) (c .pre))
 
 pub store-spec : {M : Type 1} → statement M
 store-spec =

@@ -1,8 +1,8 @@
 use mathlib.Core.Path.{sym}
 use native.Mathlib.Omega.{arith}
 use denote.Ref.{now}
-use Rattle.wire.proofs.Laws.{numberAt-out}
 use borrow.Author.Needs.{needs}
+use Rattle.wire.proofs.Laws.{numberAt-out}
 use Rattle.wire.proofs.u32_at.Statement.{statement}
 use Rattle.wire.proofs.u32_at.Tie as tie
 

@@ -1,7 +1,7 @@
 use mathlib.Core.Path.{_∙_}
 use denote.Ref.{now}
-use Rattle.wire.proofs.Laws.{four-bytes}
 use borrow.Author.Needs.{needs}
+use Rattle.wire.proofs.Laws.{four-bytes}
 use Rattle.wire.proofs.word.Statement.{statement}
 use Rattle.wire.proofs.word.Tie as tie
 

@@ -1,0 +1,98 @@
+// The Rust's src/sid, its eight files as they are, at the root of whatever program includes this file: there `pub(super)` reaches.
+// SID_DIR, set by oracle/build, is their folder. What stands below an `include!` opens what that file keeps to itself.
+
+mod constants {
+    include!(concat!(env!("SID_DIR"), "/constants.rs"));
+}
+
+mod control {
+    include!(concat!(env!("SID_DIR"), "/control.rs"));
+}
+
+mod integrator {
+    include!(concat!(env!("SID_DIR"), "/integrator.rs"));
+}
+
+mod mixing {
+    include!(concat!(env!("SID_DIR"), "/mixing.rs"));
+}
+
+mod response {
+    include!(concat!(env!("SID_DIR"), "/response.rs"));
+}
+
+mod transients {
+    include!(concat!(env!("SID_DIR"), "/transients.rs"));
+}
+
+mod tables {
+    include!(concat!(env!("SID_DIR"), "/tables.rs"));
+
+    /// `ladder_weights` at the 12 nodes of the cutoff DAC.
+    pub(super) fn twelve_weights(two_r_over_r: f64, terminated: bool) -> [f64; 12] {
+        ladder_weights(two_r_over_r, terminated)
+    }
+
+    pub(super) fn control_positions() -> [f32; 2048] {
+        build_cutoff_control_positions()
+    }
+
+    impl AnalogueTransferSurface {
+        pub(super) fn entries(&self) -> &[f32] {
+            &self.table
+        }
+    }
+
+    impl AnalogueLoadPosition {
+        pub(super) fn parts(self) -> (usize, usize, f32) {
+            (self.lower_base, self.upper_base, self.fraction)
+        }
+    }
+}
+
+mod filter {
+    include!(concat!(env!("SID_DIR"), "/filter.rs"));
+
+    impl Filter {
+        pub(super) fn registers(&mut self) -> &mut FilterRegisters {
+            &mut self.registers
+        }
+
+        pub(super) fn control(&self) -> &ControlCache {
+            &self.control
+        }
+
+        pub(super) fn curves(&self) -> &TransferCurves {
+            &self.curves
+        }
+    }
+}
+
+/// Stands for src/sid/dac.rs, which is not at hand: the fields that the filter reads.
+mod dac {
+    #[derive(Clone, Copy)]
+    pub struct VoiceSignal {
+        pub waveform: f32,
+        pub envelope: f32,
+        pub waveform_selection: u8,
+        pub combined: bool,
+        pub frozen: bool,
+    }
+}
+
+/// Stands for src/sid/model.rs, which is not at hand: an output stage that returns its argument.
+mod model {
+    pub struct AudioOutStage;
+
+    impl AudioOutStage {
+        pub fn new() -> Self {
+            Self
+        }
+
+        pub fn reset(&mut self) {}
+
+        pub fn process(&mut self, value: f32) -> f32 {
+            value
+        }
+    }
+}
