@@ -1,0 +1,185 @@
+// The loaded amplifier's transfer curves: positions in the analogue surface, sampling the surface and a curve, and building the 31 curves.
+// A sampling function is total: an unusable entry counts as the float that it is, and the judging function beside it refuses it.
+ghost use mathlib.Core.Path.{_≡_};
+ghost use Prim.Native.Nat.{_+_, _*_, _≤_, _<_, min};
+ghost use lib.ListN.{length};
+ghost use lib.Ieee.{toUnsigned};
+ghost use Rattle.wire.specs.Wire.{floatBytes, rows};
+ghost use Rattle.answers.specs.declared.Buffer.the-variants.{Bundle, Curves};
+ghost use Rattle.response.specs.Position.{tablePositionOf};
+ghost use Rattle.bundle.specs.Opening.{judgePlacesOf};
+ghost use Rattle.curves.specs.Sampling.{loadPositionOf, inputPositionOf, tablePlace, cornersOf, samplePlacesOf, sampleOf, curvePlace, sampleCurvePlacesOf, sampleCurveOf, restingPlacesOf, restingOutputOf};
+ghost use Rattle.curves.specs.Building.{curveOf, curvesOf, buildAnswerOf, builtOf};
+use answers::Answer;
+use answers::Buffer;
+use response::TablePosition;
+
+// The rows of the two loads that a conductance lies between, each by the index of its first entry, and how far it lies from the lower one.
+pub struct LoadPosition {
+    pub lower_base: usize,
+    pub upper_base: usize,
+    pub fraction: f32,
+}
+
+// ---- positions
+
+fn next_index(lower: usize, last: usize) -> usize
+    ensures { λ r. ⌜ r ≡ min (lower + 1) last ⌝ }
+{
+    if lower < last { lower + 1 } else { last }
+}
+
+// Between which two entries of a table a position lies.
+fn table_position(last: usize, position: f32) -> TablePosition
+    requires { ⌜ toUnsigned 64 position ≤ last × last ≤ 16777216 ⌝ }
+    ensures { λ r. ⌜ r ≡ tablePositionOf last position ⌝ }
+{
+    let lower = floats::as_usize(position);
+    TablePosition {
+        lower,
+        upper: next_index(lower, last),
+        fraction: position - floats::of_usize(lower),
+    }
+}
+
+// The loads that a conductance lies between: it is clamped to 0 to 9, and the index of a load is at most 144.
+pub fn load_position(conductance: f32) -> LoadPosition
+    ensures { λ r. ⌜ r ≡ loadPositionOf conductance ⌝ }
+{
+    let most = constants::SID_ANALOGUE_MAX_CONDUCTANCE;
+    let at = table_position(144, floats::clamp(conductance, 0.0, most) * 144.0 / most);
+    LoadPosition {
+        lower_base: at.lower * 2048,
+        upper_base: at.upper * 2048,
+        fraction: at.fraction,
+    }
+}
+
+// The entries of a row that an input lies between: it is clamped to 0 to 1, and the lower index is at most 2,047.
+fn input_position(input: f32) -> TablePosition
+    ensures { λ r. ⌜ r ≡ inputPositionOf input ⌝ }
+{
+    table_position(2047, floats::clamp(input, 0.0, 1.0) * 2047.0)
+}
+
+// ---- the surface
+
+fn table_place(base: usize, index: usize) -> u32
+    requires { ⌜ (base ≤ 294912) × (index ≤ 2047) ⌝ }
+    ensures { λ r. ⌜ r ≡ tablePlace (base + index) ⌝ }
+{
+    (2105464 + 4 * (base + index)) as u32
+}
+
+// The four entries between which a conductance and an input lie, in the order in which they are read.
+fn sample_places(conductance: f32, input: f32) -> [u32; 4]
+    ensures { λ r. ⌜ r ≡ samplePlacesOf conductance input ⌝ }
+{
+    let load = load_position(conductance);
+    let at = input_position(input);
+    [
+        table_place(load.lower_base, at.lower),
+        table_place(load.lower_base, at.upper),
+        table_place(load.upper_base, at.lower),
+        table_place(load.upper_base, at.upper),
+    ]
+}
+
+// Refuses at the first unusable entry that `sample` reads.
+pub fn judge_sample(bundle: &[u8], conductance: f32, input: f32) -> Answer
+    ensures { λ r. ⌜ r ≡ judgePlacesOf Bundle (now (bundle .entry)) (samplePlacesOf conductance input) ⌝ }
+{
+    let places = sample_places(conductance, input);
+    bundle::judge_places(Buffer::Bundle, bundle, &places)
+}
+
+// The amplifier's output at a conductance and an input: over the input first, then over the load.
+pub fn sample(bundle: &[u8], conductance: f32, input: f32) -> f32
+    ensures { λ r. ⌜ r ≡ sampleOf (now (bundle .entry)) conductance input ⌝ }
+{
+    let load = load_position(conductance);
+    let at = input_position(input);
+    let places = sample_places(conductance, input);
+    let lower = response::interpolate(
+        bundle::entry_at(bundle, places[0]),
+        bundle::entry_at(bundle, places[1]),
+        at.fraction,
+    );
+    let upper = response::interpolate(
+        bundle::entry_at(bundle, places[2]),
+        bundle::entry_at(bundle, places[3]),
+        at.fraction,
+    );
+    response::interpolate(lower, upper, load.fraction)
+}
+
+// ---- a curve
+
+fn curve_place(curve: u8, index: usize) -> u32
+    requires { ⌜ index ≤ 2048 ⌝ }
+    ensures { λ r. ⌜ r ≡ curvePlace curve index ⌝ }
+{
+    4 * ((curve as u32) * 2049 + (index as u32))
+}
+
+// The two entries of a curve between which an input lies, in the order in which they are read.
+fn sample_curve_places(curve: u8, input: f32) -> [u32; 2]
+    ensures { λ r. ⌜ r ≡ sampleCurvePlacesOf curve input ⌝ }
+{
+    let at = input_position(input);
+    [
+        curve_place(curve, at.lower),
+        curve_place(curve, at.lower + 1),
+    ]
+}
+
+// Refuses at the first unusable entry that `sample_curve` reads.
+pub fn judge_sample_curve(curves: &[u8], curve: u8, input: f32) -> Answer
+    ensures { λ r. ⌜ r ≡ judgePlacesOf Curves (now (curves .entry)) (sampleCurvePlacesOf curve input) ⌝ }
+{
+    let places = sample_curve_places(curve, input);
+    bundle::judge_places(Buffer::Curves, curves, &places)
+}
+
+// A curve at an input.
+pub fn sample_curve(curves: &[u8], curve: u8, input: f32) -> f32
+    ensures { λ r. ⌜ r ≡ sampleCurveOf (now (curves .entry)) curve input ⌝ }
+{
+    let at = input_position(input);
+    let places = sample_curve_places(curve, input);
+    response::interpolate(
+        bundle::entry_at(curves, places[0]),
+        bundle::entry_at(curves, places[1]),
+        at.fraction,
+    )
+}
+
+// ---- the summer at rest
+
+// Refuses at the first unusable entry that `summer_resting_output` reads.
+pub fn judge_summer_resting_output(bundle: &[u8], count: usize) -> Answer
+    ensures { λ r. ⌜ r ≡ judgePlacesOf Bundle (now (bundle .entry)) (restingPlacesOf count) ⌝ }
+{
+    if 2 <= count {
+        return judge_sample(
+            bundle,
+            floats::of_usize(count),
+            response::filter_mode_quiescent_level(),
+        );
+    }
+    Answer::Done
+}
+
+// The summer's output at rest, for a count of inputs with the two that are always there.
+pub fn summer_resting_output(bundle: &[u8], count: usize) -> f32
+    ensures { λ r. ⌜ r ≡ restingOutputOf (now (bundle .entry)) count ⌝ }
+{
+    if 2 <= count {
+        return sample(
+            bundle,
+            floats::of_usize(count),
+            response::filter_mode_quiescent_level(),
+        );
+    }
+    0.0
+}
