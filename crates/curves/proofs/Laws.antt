@@ -1,16 +1,9 @@
 -- The positions lie in their tables, whatever the conductance and the input are, a NaN included.
-use Prim.Native.Nat.{ℕ, _+_, _*_, _≤_, _<_, min}
-use mathlib.Core.Path.{_≡_, ap, sym, _∙_}
+use Prim.Native.Nat.{_≤_}
 use native.Mathlib.Omega.{arith}
-use lib.IntN.{pos}
-use lib.Ieee.{Float, binary32, ofInt, toUnsigned}
+use lib.Ieee.{Float}
 use Rattle.constants.specs.Values as K
-use Rattle.floats.specs.Arithmetic.{_⊖_, _⊗_, _⊘_, f32}
-use Rattle.floats.specs.Floats.{clampOf, ofSmall}
-use Rattle.floats.proofs.Laws.{small-exact}
 use Rattle.floats.proofs.Range.{curve-index, load-index}
-use Rattle.response.specs.declared.TablePosition.{TablePosition}
-use Rattle.response.specs.Position.{tablePositionOf}
 use Rattle.curves.specs.Sampling.{loadPositionOf, inputPositionOf}
 
 module _ (conductance : Float) where

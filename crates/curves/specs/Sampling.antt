@@ -4,8 +4,6 @@ use mathlib.Core.Bool.{cond}
 use mathlib.Core.List.{List, [], _∷_}
 use lib.Dec.{leb}
 use lib.Ieee.{Float}
-use Rattle.answers.specs.declared.Buffer.the-variants.{Bundle, Curves}
-use Rattle.answers.specs.declared.Answer.{Answer}
 use Rattle.constants.specs.Values as K
 use Rattle.floats.specs.Arithmetic.{_⊗_, _⊘_, f32}
 use Rattle.floats.specs.Floats.{clampOf, ofSmall}
@@ -13,7 +11,7 @@ use Rattle.response.specs.declared.TablePosition.{TablePosition}
 use Rattle.response.specs.Levels.{between, quiescentLevelOf}
 use Rattle.response.specs.Position.{tablePositionOf}
 use Rattle.bundle.specs.Layout.{analogueSurface, entryPlace}
-use Rattle.bundle.specs.Opening.{entryAt, judgePlacesOf}
+use Rattle.bundle.specs.Opening.{entryAt}
 use Rattle.curves.specs.declared.LoadPosition.{LoadPosition}
 
 -- ---- positions

@@ -1,5 +1,4 @@
 use native.Mathlib.Omega.{arith}
-use Prim.Native.Nat.{_≤_}
 use Rattle.curves.specs.Sampling.{sampleCurvePlacesOf}
 use Rattle.curves.proofs.Laws.{input-lower}
 use borrow.Author.Needs.{needs}
