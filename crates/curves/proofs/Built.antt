@@ -10,7 +10,7 @@ use lib.Ieee.Fits.{add-fits, mul-fits}
 use lib.ListN.{length}
 use Rattle.answers.specs.declared.Buffer.the-variants.{Bundle}
 use Rattle.answers.specs.declared.Answer.the-variants.{Done}
-use Rattle.wire.specs.Wire.{usableAt, floatBytes}
+use Rattle.wire.specs.Wire.{usableAt}
 use Rattle.wire.proofs.Laws.{length-rows, numberAt-rows}
 use Rattle.wire.proofs.Floats.{f32At-rows}
 use Rattle.bundle.specs.Opening.{entryAt, judgePlacesOf, Accepted}

@@ -1,16 +1,14 @@
 -- Document 01's cases of the positions, computed on the definitions, and what they say of every input.
 use Prim.Native.Nat.{_*_}
-use mathlib.Core.Path.{_≡_, refl, sym, ap, _∙_}
+use mathlib.Core.Path.{_≡_, refl, sym}
 use mathlib.Core.Bool.{true, false, true≢false}
-use mathlib.Core.List.{List, [], _∷_, map}
+use mathlib.Core.List.{[], _∷_, map}
 use native.Mathlib.Omega.{arith}
 use native.Mathlib.Nat.{zero-mul}
 use borrow.Author.Tests.{le-ltb}
-use lib.IntN.{pos}
-use lib.Ieee.{Float, nan, inf, fin, binary32, up, down, lt, ofBits, ofInt, toUnsigned, mul, div, sub}
+use lib.Ieee.{Float, nan, inf, fin, up, down, lt, ofBits, ofInt, toUnsigned, mul, div, sub}
 use Rattle.floats.specs.Arithmetic.{f32}
 use Rattle.floats.specs.Floats.{clampOf}
-use Rattle.curves.specs.declared.LoadPosition.{LoadPosition}
 use Rattle.curves.specs.Sampling.{loadPositionOf, inputPositionOf}
 
 -- Load 9: both bases 294,912, fraction 0.
