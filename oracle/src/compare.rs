@@ -7,9 +7,11 @@ include!("sid.rs");
 
 mod circuit;
 mod numbers;
+mod state;
 
 fn main() {
-    let subjects = circuit::compare();
+    let mut subjects = circuit::compare();
+    subjects.extend(state::compare());
     let mut differences = 0;
     for (name, tally) in &subjects {
         println!("{name}: {} compared, {} differences", tally.compared, tally.differences);

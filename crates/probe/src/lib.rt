@@ -7,11 +7,17 @@ ghost use Rattle.response.specs.Gain.{modeOutputGainOf, symmetricGainOf};
 ghost use Rattle.mixing.specs.Line.{lineOf};
 ghost use Rattle.mixing.specs.Topology.{topologyOf};
 ghost use Rattle.wire.specs.Wire.{putAt};
+ghost use Rattle.control.specs.Block.{decodeOf};
+ghost use Rattle.script.specs.Script.{checkOf};
+ghost use Rattle.probe.specs.Probe.{writeOf, writtenOf, effectiveOf, scriptOf};
+use control::Decoded;
+use control::State;
 use integrator::Advanced;
 use integrator::Coefficients;
 use integrator::IntegratorState;
 use mixing::MixingTopology;
 use response::TablePosition;
+use script::Checked;
 
 #[no_mangle]
 pub extern "C" fn probe_saturate(value: f32, drive: f32) -> f32
@@ -87,4 +93,69 @@ pub extern "C" fn probe_line(routing: u8, mode: u8, out: &mut [u8])
 {
     let text = mixing::line(routing, mode);
     wire::put(out, 0, &text);
+}
+
+// ---- a state's block and a script
+
+// The effective cutoff of a valid block, and 65,535 for any other.
+#[no_mangle]
+pub extern "C" fn probe_effective_cutoff(block: &[u8]) -> u16
+    ensures { λ r. ⌜ r ≡ effectiveOf (decodeOf (now (block .entry))) ⌝ }
+{
+    let decoded = State::decode(block);
+    match decoded {
+        Decoded::Valid(state) => state.effective_cutoff(),
+        Decoded::Invalid => 65535,
+    }
+}
+
+fn write(state: State, register: u8, value: u8) -> State
+    ensures { λ r. ⌜ r ≡ writeOf state register value ⌝ }
+{
+    match register {
+        0 => state.write_cutoff_low(value),
+        1 => state.write_cutoff_high(value),
+        2 => state.write_signal_routing(value),
+        3 => state.write_mode_and_volume(value),
+        _ => state.reset(),
+    }
+}
+
+// A valid block after a write of a register, 0 to 3, or a reset; an invalid one stays.
+#[no_mangle]
+pub extern "C" fn probe_write(block: &mut [u8], register: u8, value: u8)
+    ensures { λ _. ⌜ now (block .exit) ≡ writtenOf (decodeOf (now (block .entry))) (now (block .entry)) register value ⌝ }
+{
+    let decoded = State::decode(block);
+    if let Decoded::Valid(state) = decoded {
+        let next = write(state, register, value);
+        next.encode(block);
+    }
+}
+
+// What the check of a script answers.
+#[repr(C)]
+pub struct Script {
+    pub refused: bool,
+    pub events: usize,
+    pub samples: usize,
+}
+
+#[no_mangle]
+pub extern "C" fn probe_script(script: &[u8]) -> Script
+    ensures { λ r. ⌜ r ≡ scriptOf (checkOf (now (script .entry))) ⌝ }
+{
+    let checked = script::check(script);
+    match checked {
+        Checked::WellFormed { events, samples } => Script {
+            refused: false,
+            events,
+            samples,
+        },
+        Checked::Refused(_) => Script {
+            refused: true,
+            events: 0,
+            samples: 0,
+        },
+    }
 }
