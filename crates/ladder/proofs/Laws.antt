@@ -1,19 +1,19 @@
 -- Lists of twelve that a loop fills entry by entry, and the steps of the definitions at an index of the code.
-use Prim.Native.Nat.{ℕ, zero, suc, _+_, _-_, _≤_, _<_}
+use Prim.Native.Nat.{ℕ, zero, suc, _+_, _-_, _/_, _^_, _≤_, _<_}
 use mathlib.Core.Path.{_≡_, refl, sym, ap, _∙_}
 use mathlib.Core.Logic.{⊎-elim}
-use mathlib.Core.Bool.{Bool, true, false}
+use mathlib.Core.Bool.{Bool, true, false, cond}
 use mathlib.Core.List.{List, [], _∷_, _++_}
 use native.Mathlib.Omega.{arith}
-use native.Mathlib.Nat.{eq-or-lt-of-le}
+use native.Mathlib.Nat.{eq-or-lt-of-le, div-div-eq-div-mul, pow-suc}
 use native.Mathlib.Numerals.{add-one}
 use lib.Dec.{eqb}
-use lib.ListN.{length, set, length-set, length-append, List·getD-append}
+use lib.ListN.{length, set, replicate, length-set, length-append, getD-replicate, List·getD-append}
 use lib.Seq.{getD-set-same, getD-set-other, getD-at, ext-getD}
 use lib.Ieee.{Float, nan}
-use borrow.Author.Tests.{eqb-true, eqb-false, lt-ltb, le-ltb}
-use Rattle.ladder.specs.Arithmetic.{_⊖_, _⊗_, _⊘_, f64}
-use Rattle.ladder.specs.Ladder.{at, tabulated, cAt, dAt, resultFrom}
+use borrow.Author.Tests.{eqb-true, eqb-false, eq-eqb, ne-eqb, lt-ltb, le-ltb}
+use Rattle.ladder.specs.Arithmetic.{_⊕_, _⊖_, _⊗_, _⊘_, f64}
+use Rattle.ladder.specs.Ladder.{at, tabulated, sumOf, cAt, dAt, resultFrom}
 
 -- ---- lists
 
@@ -67,6 +67,26 @@ module _ (f : ℕ → Float) where
           long = length-set xs i v ∙ r .long;
           entry = λ k p q. stored k (r .long) (λ n. ⊎-elim (λ (s : i ≡ k). absurd (n (sym s))) (λ (s : i < k). r .entry k (omega arith) q) (eq-or-lt-of-le p));
         }
+
+-- Zeros with one entry stored.
+pub tabulated-one : (z v : Float) (i : ℕ) → i < 12 → set (replicate 12 z) i v ≡ tabulated (λ k. cond (eqb k i) v z) 12
+tabulated-one z v i h =
+    filled-all (λ k. cond (eqb k i) v z) {a = 0} {b = 12} (omega arith) (omega arith)
+    record {
+      long = length-set (replicate 12 z) i v;
+      entry = λ k p q.
+          stored (λ k. cond (eqb k i) v z) (replicate 12 z) i v h (rw (eq-eqb i i refl)) k refl
+          (λ n. rw (ne-eqb k i n) (getD-replicate 12 k z nan q));
+    }
+
+-- ---- sums
+
+pub sum-more : (f : ℕ → Float) (i : ℕ) → sumOf f i ⊕ f i ≡ sumOf f (i + 1)
+unfolding sumOf
+sum-more f i = rw add-one
+
+pub halved : (n i : ℕ) → n / 2 ^ i / 2 ≡ n / 2 ^ (i + 1)
+halved n i = rw (div-div-eq-div-mul n (2 ^ i) 2, add-one, pow-suc)
 
 -- ---- the elimination and the substitution
 

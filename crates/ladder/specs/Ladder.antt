@@ -21,7 +21,7 @@ tabulated f (suc n) = tabulated f n ++ f n ∷ []
 
 -- `sum()` of f 0 to f (n - 1), in this order. In rustc 1.95 it starts from -0.0.
 unfoldable pub sumOf : (ℕ → Float) → ℕ → Float
-sumOf f zero = f64 0x8000_0000_0000_0000
+sumOf f zero = neg (f64 0)
 sumOf f (suc n) = sumOf f n ⊕ f n
 
 -- ---- `solve_tridiagonal`
@@ -54,3 +54,63 @@ substituteOf s = tabulated (λ i. resultFrom (s .c) (s .d) (11 - i) i) 12
 
 unfoldable pub solveOf : List Float → List Float → List Float → List Float → List Float
 solveOf lower diagonal upper rhs = substituteOf (sweepOf lower diagonal upper rhs)
+
+-- ---- `ladder_weights`
+
+abbrev one : Float
+one = f64 0x3ff0_0000_0000_0000
+
+abbrev addIf : Bool → Float → Float → Float
+addIf on x y = cond on (x ⊕ y) x
+
+-- The links to the node below and to the node above, each a conductance of 1.0.
+abbrev pub lowerAt : ℕ → Float
+lowerAt node = cond (ltb 0 node) (neg one) (f64 0)
+
+abbrev pub upperAt : ℕ → Float
+upperAt node = cond (ltb (node + 1) 12) (neg one) (f64 0)
+
+-- What meets at a node, added to 0.0 in this order: its branch, the link below it, the link above it, the termination at node 0 and the
+-- load at node 11.
+abbrev pub diagonalAt : Float → Bool → ℕ → Float
+diagonalAt source terminated node =
+    let branch = f64 0 ⊕ source in
+    let below = addIf (ltb 0 node) branch one in
+    let linked = addIf (ltb (node + 1) 12) below one in
+    let ended = addIf (eqb node 0 && terminated) linked source in
+    addIf (eqb node 11) ended one
+
+-- The active node's branch is driven.
+abbrev pub rhsAt : Float → ℕ → ℕ → Float
+rhsAt source active node = addIf (eqb node active) (f64 0) source
+
+abbrev pub diagonalOf : Float → Bool → List Float
+diagonalOf source terminated = tabulated (diagonalAt source terminated) 12
+
+-- The level of the last node when one node is driven, by its source conductance and the diagonal.
+unfoldable pub responseOf : Float → List Float → ℕ → Float
+responseOf source diagonal active =
+    at (solveOf (tabulated lowerAt 12) diagonal (tabulated upperAt 12) (tabulated (rhsAt source active) 12)) 11
+
+abbrev pub responsesOf : Float → List Float → List Float
+responsesOf source diagonal = tabulated (responseOf source diagonal) 12
+
+abbrev pub totalOf : List Float → Float
+totalOf xs = sumOf (at xs) 12
+
+abbrev pub normalisedOf : List Float → List Float
+normalisedOf xs = tabulated (λ i. at xs i ⊘ totalOf xs) 12
+
+unfoldable pub weightsOf : Float → Bool → List Float
+weightsOf two-r-over-r terminated =
+    let source = one ⊘ two-r-over-r in
+    normalisedOf (responsesOf source (diagonalOf source terminated))
+
+-- ---- `ladder_value`
+
+-- A bit that is off leaks.
+abbrev pub levelAt : ℕ → Float → ℕ → Float
+levelAt code leakage bit = cond (eqb (code / 2 ^ bit % 2) 1) one leakage
+
+unfoldable pub valueOf : ℕ → List Float → Float → Float
+valueOf code weights leakage = sumOf (λ bit. levelAt code leakage bit ⊗ at weights bit) 12
