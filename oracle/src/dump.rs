@@ -333,12 +333,11 @@ fn tables_of(coefficients: &FilterCoefficients) -> Vec<Vec<Vec<f32>>> {
         drive(coefficients.feedback_drive),
         rows(&FILTER_SINGLE_MODE_CUTOFF_GAIN),
         rows(&FILTER_SINGLE_MODE_RESONANCE_GAIN),
-        rows(&FILTER_DIRECTIONAL_LOADING_GAIN),
         rows(&FILTER_SYMMETRIC_LOADING_GAIN),
     ]
 }
 
-/// Table, row, column, and the entry as two words. Past an end of the last four tables there is a NaN. Tables 11 to 13 are the f64
+/// Table, row, column, and the entry as two words. Past an end of the last three tables there is a NaN. Tables 10 to 12 are the f64
 /// numbers, the counts and the displacement's limit.
 fn constants(coefficients: &FilterCoefficients) -> Vec<[u32; 5]> {
     let mut records = vec![];
@@ -354,12 +353,12 @@ fn constants(coefficients: &FilterCoefficients) -> Vec<[u32; 5]> {
     }
     for (column, entry) in [SID_FILTER_DAC_TWO_R_OVER_R, SID_DAC_LEAKAGE].into_iter().enumerate() {
         let [low, high] = words_f64(entry);
-        records.push([11, 0, column as u32, low, high]);
+        records.push([10, 0, column as u32, low, high]);
     }
     for (column, entry) in [SID_ANALOGUE_LOAD_BINS, FILTER_SUBSTEPS, FILTER_OPERATING_BINS].into_iter().enumerate() {
-        records.push([12, 0, column as u32, entry as u32, 0]);
+        records.push([11, 0, column as u32, entry as u32, 0]);
     }
-    records.push([13, 0, 0, FILTER_CUTOFF_STEP_CHARGE_LIMIT_CODES as u32, 0]);
+    records.push([12, 0, 0, FILTER_CUTOFF_STEP_CHARGE_LIMIT_CODES as u32, 0]);
     records
 }
 

@@ -21,8 +21,5 @@ singleModeCutoffGainOf m i = entryAt K.FILTER-SINGLE-MODE-CUTOFF-GAIN m i
 unfoldable pub singleModeResonanceGainOf : ℕ → ℕ → Float
 singleModeResonanceGainOf m i = entryAt K.FILTER-SINGLE-MODE-RESONANCE-GAIN m i
 
-unfoldable pub directionalLoadingGainOf : ℕ → ℕ → Float
-directionalLoadingGainOf m i = entryAt K.FILTER-DIRECTIONAL-LOADING-GAIN m i
-
 unfoldable pub symmetricLoadingGainOf : ℕ → ℕ → Float
 symmetricLoadingGainOf m i = entryAt K.FILTER-SYMMETRIC-LOADING-GAIN m i

@@ -200,34 +200,7 @@ FILTER-SINGLE-MODE-RESONANCE-GAIN =
     ofBits binary32 0x3f81a838 ∷ ofBits binary32 0x3f81cce6 ∷ ofBits binary32 0x3f81c953 ∷ ofBits binary32 0x3f80df27 ∷
     ofBits binary32 0x3f80ae5f ∷ ofBits binary32 0x3f7fd12a ∷ ofBits binary32 0x3f80dad0 ∷ ofBits binary32 0x3f8525b5 ∷ []) ∷ []
 
--- The same rows for a moving cutoff: the gain after the largest step upwards, and what does not depend on the step's direction.
-abbrev pub FILTER-DIRECTIONAL-LOADING-GAIN : List (List Float)
-FILTER-DIRECTIONAL-LOADING-GAIN =
-    (ofBits binary32 0x3f800000 ∷ ofBits binary32 0x3f800000 ∷ ofBits binary32 0x3f700a19 ∷ ofBits binary32 0x3f70d954 ∷
-    ofBits binary32 0x3f7e9719 ∷ ofBits binary32 0x3f80502a ∷ ofBits binary32 0x3f747eaf ∷ ofBits binary32 0x3f6e4004 ∷
-    ofBits binary32 0x3f6fdcac ∷ ofBits binary32 0x3f74c518 ∷ ofBits binary32 0x3f7ac162 ∷ ofBits binary32 0x3f7a9f4b ∷
-    ofBits binary32 0x3f75d9b1 ∷ ofBits binary32 0x3f721606 ∷ ofBits binary32 0x3f7103b8 ∷ ofBits binary32 0x3f72b9c0 ∷
-    ofBits binary32 0x3f766c90 ∷ ofBits binary32 0x3f7b1421 ∷ ofBits binary32 0x3f7e94c6 ∷ ofBits binary32 0x3f7f255e ∷
-    ofBits binary32 0x3f7e2177 ∷ ofBits binary32 0x3f7d668c ∷ ofBits binary32 0x3f7d4a11 ∷ ofBits binary32 0x3f7d75c1 ∷
-    ofBits binary32 0x3f7e017d ∷ ofBits binary32 0x3f7f9f7e ∷ ofBits binary32 0x3f80a7b3 ∷ ofBits binary32 0x3f80e3e6 ∷
-    ofBits binary32 0x3f7cb24c ∷ ofBits binary32 0x3f800000 ∷ ofBits binary32 0x3f800000 ∷ ofBits binary32 0x3f800000 ∷ []) ∷
-    (ofBits binary32 0x3fa3a51b ∷ ofBits binary32 0x3f6ee594 ∷ ofBits binary32 0x3f8e05f6 ∷ ofBits binary32 0x3f7f6c7d ∷
-    ofBits binary32 0x3f69d674 ∷ ofBits binary32 0x3f6ddf2c ∷ ofBits binary32 0x3f6ee5bb ∷ ofBits binary32 0x3f741f71 ∷
-    ofBits binary32 0x3f7359f1 ∷ ofBits binary32 0x3f796dfa ∷ ofBits binary32 0x3f7855b0 ∷ ofBits binary32 0x3f7f8d90 ∷
-    ofBits binary32 0x3f803e08 ∷ ofBits binary32 0x3f7fed8c ∷ ofBits binary32 0x3f7ea517 ∷ ofBits binary32 0x3f805382 ∷
-    ofBits binary32 0x3f814aa3 ∷ ofBits binary32 0x3f804e07 ∷ ofBits binary32 0x3f835da6 ∷ ofBits binary32 0x3f8471f5 ∷
-    ofBits binary32 0x3f848fae ∷ ofBits binary32 0x3f840512 ∷ ofBits binary32 0x3f86bc32 ∷ ofBits binary32 0x3f8820b6 ∷
-    ofBits binary32 0x3f86f37e ∷ ofBits binary32 0x3f86ea18 ∷ ofBits binary32 0x3f8aa3a1 ∷ ofBits binary32 0x3f841317 ∷
-    ofBits binary32 0x3f52446b ∷ ofBits binary32 0x3f701f89 ∷ ofBits binary32 0x3fd6a3e4 ∷ ofBits binary32 0x3fa15bab ∷ []) ∷
-    (ofBits binary32 0x3f863836 ∷ ofBits binary32 0x3f89a8c5 ∷ ofBits binary32 0x3f8446b1 ∷ ofBits binary32 0x3f810a19 ∷
-    ofBits binary32 0x3f821658 ∷ ofBits binary32 0x3f818d52 ∷ ofBits binary32 0x3f80dc8a ∷ ofBits binary32 0x3f8207ef ∷
-    ofBits binary32 0x3f827ceb ∷ ofBits binary32 0x3f81e7d8 ∷ ofBits binary32 0x3f82638d ∷ ofBits binary32 0x3f844456 ∷
-    ofBits binary32 0x3f8644d7 ∷ ofBits binary32 0x3f812d2e ∷ ofBits binary32 0x3f7e9dd9 ∷ ofBits binary32 0x3f859c5f ∷
-    ofBits binary32 0x3f867867 ∷ ofBits binary32 0x3f85c935 ∷ ofBits binary32 0x3f872584 ∷ ofBits binary32 0x3f893bdc ∷
-    ofBits binary32 0x3f89fe81 ∷ ofBits binary32 0x3f8a84af ∷ ofBits binary32 0x3f8c8ee4 ∷ ofBits binary32 0x3f8cc46a ∷
-    ofBits binary32 0x3f8b9734 ∷ ofBits binary32 0x3f8a46e2 ∷ ofBits binary32 0x3f8ca84d ∷ ofBits binary32 0x3f92b8aa ∷
-    ofBits binary32 0x3f69dffd ∷ ofBits binary32 0x3f61bc9c ∷ ofBits binary32 0x3fed3333 ∷ ofBits binary32 0x3fb75c0f ∷ []) ∷ []
-
+-- The same rows for a moving cutoff: the part of the gain that does not depend on the step's direction. (The other part is in the bundle.)
 abbrev pub FILTER-SYMMETRIC-LOADING-GAIN : List (List Float)
 FILTER-SYMMETRIC-LOADING-GAIN =
     (ofBits binary32 0x3f800000 ∷ ofBits binary32 0x3f800000 ∷ ofBits binary32 0x3f800000 ∷ ofBits binary32 0x3f800000 ∷

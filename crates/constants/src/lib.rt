@@ -2,7 +2,7 @@
 ghost use mathlib.Core.Path.{_≡_};
 ghost use lib.ListN.{length};
 ghost use Rattle.constants.specs.Values as K;
-ghost use Rattle.constants.specs.Tables.{Rows, entryAt, singleModeCutoffGainOf, singleModeResonanceGainOf, directionalLoadingGainOf, symmetricLoadingGainOf};
+ghost use Rattle.constants.specs.Tables.{Rows, entryAt, singleModeCutoffGainOf, singleModeResonanceGainOf, symmetricLoadingGainOf};
 
 // The cutoff DAC's ladder: the ratio of its 2R to its R resistors, and the level of a bit that is off.
 pub const SID_FILTER_DAC_TWO_R_OVER_R: f64 = 1.879;
@@ -277,112 +277,7 @@ const FILTER_SINGLE_MODE_RESONANCE_GAIN: [[f32; 16]; 3] = [
     ],
 ];
 
-// The same rows for a moving cutoff: the gain after the largest step upwards, and what does not depend on the step's direction.
-const FILTER_DIRECTIONAL_LOADING_GAIN: [[f32; 32]; 3] = [
-    [
-        1.00000000,
-        1.00000000,
-        0.93765405,
-        0.94081614,
-        0.99449308,
-        1.00244643,
-        0.95505805,
-        0.93066433,
-        0.93696096,
-        0.95613242,
-        0.97951331,
-        0.97899309,
-        0.96035296,
-        0.94564853,
-        0.94146301,
-        0.94814680,
-        0.96259405,
-        0.98077592,
-        0.99445758,
-        0.99666390,
-        0.99269815,
-        0.98984601,
-        0.98941140,
-        0.99007803,
-        0.99221018,
-        0.99852738,
-        1.00511773,
-        1.00695487,
-        0.98709561,
-        1.00000000,
-        1.00000000,
-        1.00000000,
-    ],
-    [
-        1.27847607,
-        0.93319057,
-        1.10955689,
-        0.99774913,
-        0.91342853,
-        0.92918657,
-        0.93319293,
-        0.95360476,
-        0.95059116,
-        0.97433434,
-        0.97005751,
-        0.99825384,
-        1.00189309,
-        0.99971844,
-        0.99470656,
-        1.00254850,
-        1.01009023,
-        1.00238117,
-        1.02629542,
-        1.03472767,
-        1.03563478,
-        1.03140479,
-        1.05261832,
-        1.06349830,
-        1.05430574,
-        1.05401898,
-        1.08311857,
-        1.03183261,
-        0.82135649,
-        0.93798117,
-        1.67687657,
-        1.26060993,
-    ],
-    [
-        1.04859041,
-        1.07546298,
-        1.03340730,
-        1.00812060,
-        1.01630685,
-        1.01212524,
-        1.00673030,
-        1.01586716,
-        1.01943717,
-        1.01488782,
-        1.01866306,
-        1.03333549,
-        1.04897587,
-        1.00919125,
-        0.99459604,
-        1.04383455,
-        1.05054944,
-        1.04520286,
-        1.05583242,
-        1.07213932,
-        1.07807940,
-        1.08217416,
-        1.09811072,
-        1.09974413,
-        1.09055189,
-        1.08028820,
-        1.09888608,
-        1.14626051,
-        0.91357403,
-        0.88178420,
-        1.85312496,
-        1.43249691,
-    ],
-];
-
+// The same rows for a moving cutoff: the part of the gain that does not depend on the step's direction. (The other part is in the bundle.)
 const FILTER_SYMMETRIC_LOADING_GAIN: [[f32; 32]; 3] = [
     [
         1.00000000,
@@ -812,13 +707,6 @@ pub fn single_mode_resonance_gain(mode_index: usize, resonance: usize) -> f32
         }
     }
     0.0 / 0.0
-}
-
-// The gain after the largest step upwards of the cutoff: i is 0 to 31.
-pub fn directional_loading_gain(mode_index: usize, i: usize) -> f32
-    ensures { λ r. ⌜ r ≡ directionalLoadingGainOf «mode_index» i ⌝ }
-{
-    entry_at(&FILTER_DIRECTIONAL_LOADING_GAIN, mode_index, i)
 }
 
 // The gain that does not depend on the direction of the step: i is 0 to 31.

@@ -5,7 +5,8 @@ use mathlib.Core.Bool.{Bool, true, false, not, _&&_, cond}
 use Prim.Native.Nat.{ℕ, _+_, _≤_, min}
 use native.Mathlib.Omega.{arith}
 use lib.Dec.{eqb}
-use Rattle.mixing.specs.Topology.{bit, one, filteredOf, bypassedOf, filterCountOf, bypassCountOf, outputCountOf, mixerCountOf}
+use Rattle.response.specs.Bits.{bit}
+use Rattle.mixing.specs.Topology.{one, filteredOf, bypassedOf, filterCountOf, bypassCountOf, outputCountOf, mixerCountOf}
 
 pub disjoint : (routing mode index : ℕ) → (filteredOf routing index && bypassedOf routing mode index) ≡ false
 disjoint routing mode index = go (filteredOf routing index) (eqb index 2 && bit mode 3)

@@ -8,7 +8,8 @@ use lib.Dec.{lit≤}
 use lib.ListN.{getD}
 use lib.Ieee.{Float}
 use Rattle.mixing.specs.declared.MixingTopology.{MixingTopology}
-use Rattle.mixing.specs.Topology.{bit, one, reciprocalOf, filterCountOf, bypassCountOf, outputCountOf, topologyOf}
+use Rattle.response.specs.Bits.{bit}
+use Rattle.mixing.specs.Topology.{one, reciprocalOf, filterCountOf, bypassCountOf, outputCountOf, topologyOf}
 use Rattle.mixing.specs.Line.{digit, flag, lineOf}
 use Rattle.mixing.proofs.Facts.{mixer-is, filter-most, bypass-most, output-most, mixer-most}
 

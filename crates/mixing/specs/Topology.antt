@@ -1,17 +1,14 @@
 -- `MixingTopology::update` of mixing.rs: which sources the filter takes and which go straight to the mixer, by the routing and the mode nibble.
 -- Sources 0 to 2 are voices 1 to 3, and source 3 is the external input.
-use Prim.Native.Nat.{ℕ, _+_, _*_, _/_, _%_, _^_, min}
+use Prim.Native.Nat.{ℕ, _+_, _*_, min}
 use mathlib.Core.Bool.{Bool, true, false, not, _&&_, cond}
 use mathlib.Core.List.{List, [], _∷_}
 use lib.Dec.{eqb}
 use lib.IntN.{pos}
 use lib.Ieee.{Float, binary32, ofInt}
 use Rattle.floats.specs.Arithmetic.{_⊘_, f32}
+use Rattle.response.specs.Bits.{bit}
 use Rattle.mixing.specs.declared.MixingTopology.{MixingTopology}
-
--- bit i of n is set
-abbrev pub bit : ℕ → ℕ → Bool
-bit n i = eqb (n / 2 ^ i % 2) 1
 
 -- usize::from
 abbrev pub one : Bool → ℕ

@@ -26,10 +26,9 @@ pub(crate) fn constant(r: &[u8]) -> bool {
         6 => has_entry(r, column, &constants::feedback_drive()),
         7 => has(r, 12, constants::single_mode_cutoff_gain(row, column)),
         8 => has(r, 12, constants::single_mode_resonance_gain(row, column)),
-        9 => has(r, 12, constants::directional_loading_gain(row, column)),
-        10 => has(r, 12, constants::symmetric_loading_gain(row, column)),
-        11 => has_double(r, column),
-        12 => has_size(r, column),
+        9 => has(r, 12, constants::symmetric_loading_gain(row, column)),
+        10 => has_double(r, column),
+        11 => has_size(r, column),
         _ => wire::i16_at(r, 12) == constants::cutoff_step_charge_limit_codes(),
     }
 }

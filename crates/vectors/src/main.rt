@@ -1,6 +1,5 @@
 // Replays the oracle's answers (oracle/README.md) through the proved crates, and prints a line for each file: its name, how many of
 // its records agree, and how many it has.
-mod circuit;
 mod ground;
 mod record;
 
@@ -23,9 +22,6 @@ enum Kind {
     Words,
     Reads,
     Puts,
-    Saturate,
-    Advance,
-    Substeps,
 }
 
 fn agrees(kind: Kind, r: &[u8], bundle: &[u8]) -> bool {
@@ -43,9 +39,6 @@ fn agrees(kind: Kind, r: &[u8], bundle: &[u8]) -> bool {
         Kind::Words => ground::word(r, bundle),
         Kind::Reads => ground::read(r),
         Kind::Puts => ground::put(r),
-        Kind::Saturate => circuit::saturate(r),
-        Kind::Advance => circuit::advance(r),
-        Kind::Substeps => circuit::substeps(r),
     }
 }
 
@@ -73,9 +66,6 @@ fn replay_all(bundle: &[u8]) {
     replay(Kind::Words, b"words.bin", 3, bundle);
     replay(Kind::Reads, b"reads.bin", 9, bundle);
     replay(Kind::Puts, b"puts.bin", 10, bundle);
-    replay(Kind::Saturate, b"saturate.bin", 3, bundle);
-    replay(Kind::Advance, b"advance.bin", 13, bundle);
-    replay(Kind::Substeps, b"substeps.bin", 28, bundle);
 }
 
 // The bundle alone takes 6 of the 8 MiB of stack.

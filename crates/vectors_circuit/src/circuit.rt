@@ -1,12 +1,9 @@
-// Records of the circuit's parts: the integrator.
-use crate::record::has;
+// Records of the integrator.
 use integrator::Advanced;
 use integrator::Coefficients;
 use integrator::IntegratorState;
 use integrator::Substeps;
 ghost use Prim.Native.Nat.{_<_};
-
-// ---- integrator
 
 pub(crate) fn saturate(r: &[u8]) -> bool {
     has(
@@ -75,4 +72,9 @@ fn settled_at(r: &[u8], place: usize) -> bool
 
 fn finite_at(r: &[u8], place: usize) -> bool {
     wire::finite_bits(wire::u32_at(r, place))
+}
+
+// Whether the record has the float's bits at a place.
+pub(crate) fn has(r: &[u8], place: usize, x: f32) -> bool {
+    wire::u32_at(r, place) == wire::float_bits(x)
 }

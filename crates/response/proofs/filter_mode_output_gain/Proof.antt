@@ -1,0 +1,56 @@
+use Rattle.response.specs.Gain.{modeOutputGainOf}
+use borrow.Author.Needs.{needs}
+use Rattle.response.proofs.filter_mode_output_gain.Statement.{statement}
+use Rattle.response.proofs.filter_mode_output_gain.Tie as tie
+
+cutoff-position-requires : tie.Need-cutoff-position-requires
+cutoff-position-requires c κs = search needs
+
+high-resonance-requires : tie.Need-high-resonance-requires
+high-resonance-requires c κs = search needs
+
+base-gain-requires : tie.Need-base-gain-requires
+base-gain-requires c κs = search needs
+
+low-band-lift-requires : tie.Need-low-band-lift-requires
+low-band-lift-requires c κs = search needs
+
+bandpass-trim-requires : tie.Need-bandpass-trim-requires
+bandpass-trim-requires c κs = search needs
+
+in-high-mode-requires : tie.Need-in-high-mode-requires
+in-high-mode-requires c κs = search needs
+
+highpass-resonance-trim-requires : tie.Need-highpass-resonance-trim-requires
+highpass-resonance-trim-requires c κs = search needs
+
+single-mode-loading-requires : tie.Need-single-mode-loading-requires
+single-mode-loading-requires c κs = search needs
+
+returns : tie.Need-returns
+unfolding modeOutputGainOf
+returns c =
+    simp (
+      c .single-mode-loading .ensures,
+      c .before .highpass-resonance-trim .ensures,
+      c .before .before .in-high-mode .ensures,
+      c .before .before .before .bandpass-trim .ensures,
+      c .before .before .before .before .low-band-lift .ensures,
+      c .before .before .before .before .before .base-gain .ensures,
+      c .before .before .before .before .before .before .high-resonance .ensures,
+      c .before .before .before .before .before .before .before .cutoff-position .ensures,
+    )
+
+pub filter-mode-output-gain-spec : {M : Type 1} → statement M
+filter-mode-output-gain-spec =
+    tie.close
+    (tie.spec
+    cutoff-position-requires
+    high-resonance-requires
+    base-gain-requires
+    low-band-lift-requires
+    bandpass-trim-requires
+    in-high-mode-requires
+    highpass-resonance-trim-requires
+    single-mode-loading-requires
+    returns)

@@ -1,0 +1,4 @@
+pub mod Bits
+pub mod Levels
+pub mod Position
+pub mod Gain
