@@ -1,12 +1,16 @@
 -- The resistor ladder of tables.rs, operation by operation, with 12 nodes. A list stands for an array, and its places count from 0.
 use Prim.Native.Nat.{ℕ, zero, suc, _+_, _-_, _/_, _%_, _^_}
-use mathlib.Core.Bool.{Bool, cond, _&&_}
+use mathlib.Core.Bool.{Bool, false, cond, _&&_}
 use mathlib.Core.List.{List, [], _∷_, _++_}
 use lib.Dec.{ltb, eqb}
-use lib.ListN.{getD, set, replicate}
-use lib.Ieee.{Float, nan, neg}
+use lib.ListN.{getD}
+use lib.Ieee.{Float, nan, binary32, neg, mul}
+use Rattle.constants.specs.Values.{SID-FILTER-DAC-TWO-R-OVER-R, SID-DAC-LEAKAGE}
+use Rattle.floats.specs.Arithmetic.{f32}
+use Rattle.floats.specs.Floats.{clampOf, narrowOf}
 use Rattle.ladder.specs.Arithmetic.{_⊕_, _⊖_, _⊗_, _⊘_, f64}
 use Rattle.ladder.specs.declared.Swept.{Swept}
+use Rattle.ladder.specs.declared.Scale.{Scale}
 
 -- ---- lists
 
@@ -114,3 +118,20 @@ levelAt code leakage bit = cond (eqb (code / 2 ^ bit % 2) 1) one leakage
 
 unfoldable pub valueOf : ℕ → List Float → Float → Float
 valueOf code weights leakage = sumOf (λ bit. levelAt code leakage bit ⊗ at weights bit) 12
+
+-- ---- `build_cutoff_control_positions`
+
+-- The cutoff DAC's twelfth bit is tied high, so that FIXED_MSB | code is 2,048 + code. A position is where the code's level lies between
+-- that of code 0 and that of code 2,047.
+unfoldable pub positionOf : Scale → ℕ → Float
+positionOf s code =
+    let ladder = valueOf (2048 + code) (s .weights) SID-DAC-LEAKAGE in
+    let normal = narrowOf ((ladder ⊖ s .zero) ⊘ s .span) in
+    clampOf (mul binary32 normal (f32 0x44ff_e000)) (f32 0) (f32 0x44ff_e000)
+
+unfoldable pub cutoffScaleOf : Scale
+cutoffScaleOf =
+    let weights = weightsOf SID-FILTER-DAC-TWO-R-OVER-R false in
+    let zero = valueOf 2048 weights SID-DAC-LEAKAGE in
+    let full = valueOf 4095 weights SID-DAC-LEAKAGE in
+    record { weights = weights; zero = zero; span = full ⊖ zero }

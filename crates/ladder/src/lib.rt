@@ -1,7 +1,10 @@
 // The cutoff DAC's resistor ladder, from tables.rs: 12 nodes, in f64.
 ghost use mathlib.Core.Path.{_≡_};
-ghost use Prim.Native.Nat.{_<_};
-ghost use Rattle.ladder.specs.Ladder.{sweepOf, substituteOf, solveOf, lowerAt, upperAt, diagonalOf, rhsAt, responseOf, responsesOf, totalOf, normalisedOf, weightsOf, valueOf, tabulated};
+ghost use Prim.Native.Nat.{_<_, _≤_};
+ghost use lib.ListN.{length};
+ghost use Rattle.ladder.specs.Ladder.{positionOf, cutoffScaleOf, sweepOf, substituteOf, solveOf, lowerAt, upperAt, diagonalOf, rhsAt, responseOf, responsesOf, totalOf, normalisedOf, weightsOf, valueOf, tabulated};
+ghost use Rattle.ladder.specs.Calls.{allFiniteOf, settleNodesOf, settleLevelOf, solveTridiagonalOf, ladderWeightsOf, ladderValueOf, positionsFiniteOf, positionBytesOf, buildCutoffControlPositionsOf};
+use answers::Answer;
 
 // What the elimination leaves: row i of the network reads x[i] + c[i] * x[i + 1] = d[i].
 struct Swept {
@@ -56,7 +59,18 @@ fn lower_links() -> [f64; 12]
     ensures { λ r. ⌜ r ≡ tabulated lowerAt 12 ⌝ }
 {
     [
-        0.0, -1.0, -1.0, -1.0, -1.0, -1.0, -1.0, -1.0, -1.0, -1.0, -1.0, -1.0,
+        0.0,
+        -1.0,
+        -1.0,
+        -1.0,
+        -1.0,
+        -1.0,
+        -1.0,
+        -1.0,
+        -1.0,
+        -1.0,
+        -1.0,
+        -1.0,
     ]
 }
 
@@ -64,7 +78,18 @@ fn upper_links() -> [f64; 12]
     ensures { λ r. ⌜ r ≡ tabulated upperAt 12 ⌝ }
 {
     [
-        -1.0, -1.0, -1.0, -1.0, -1.0, -1.0, -1.0, -1.0, -1.0, -1.0, -1.0, 0.0,
+        -1.0,
+        -1.0,
+        -1.0,
+        -1.0,
+        -1.0,
+        -1.0,
+        -1.0,
+        -1.0,
+        -1.0,
+        -1.0,
+        -1.0,
+        0.0,
     ]
 }
 
@@ -81,7 +106,18 @@ fn diagonal(source: f64, terminated: bool) -> [f64; 12]
     let inner = branch + 1.0 + 1.0;
     let last = branch + 1.0 + 1.0;
     [
-        first, inner, inner, inner, inner, inner, inner, inner, inner, inner, inner, last,
+        first,
+        inner,
+        inner,
+        inner,
+        inner,
+        inner,
+        inner,
+        inner,
+        inner,
+        inner,
+        inner,
+        last,
     ]
 }
 
@@ -100,7 +136,12 @@ fn response(source: f64, diagonal: &[f64; 12], active: usize) -> f64
     requires { ⌜ active < 12 ⌝ }
     ensures { λ r. ⌜ r ≡ responseOf source (now (diagonal .entry)) active ⌝ }
 {
-    let solved = solve(&lower_links(), diagonal, &upper_links(), &drive(source, active));
+    let solved = solve(
+        &lower_links(),
+        diagonal,
+        &upper_links(),
+        &drive(source, active),
+    );
     solved[11]
 }
 
@@ -164,4 +205,173 @@ fn value(code: usize, weights: &[f64; 12], leakage: f64) -> f64
         bit += 1;
     }
     sum
+}
+
+// The cutoff DAC's weights with the level of code 0 and the span to code 2,047. Its twelfth bit is tied high, to 2,048.
+struct Scale {
+    weights: [f64; 12],
+    zero: f64,
+    span: f64,
+}
+
+fn cutoff_scale() -> Scale
+    ensures { λ r. ⌜ r ≡ cutoffScaleOf ⌝ }
+{
+    let weights = weights(constants::SID_FILTER_DAC_TWO_R_OVER_R, false);
+    let zero = value(2048, &weights, constants::SID_DAC_LEAKAGE);
+    let full = value(4095, &weights, constants::SID_DAC_LEAKAGE);
+    Scale {
+        weights,
+        zero,
+        span: full - zero,
+    }
+}
+
+// Where a code's level lies in the span, from 0.0 to 2047.0.
+fn position(s: Scale, code: usize) -> f32
+    requires { ⌜ code < 2048 ⌝ }
+    ensures { λ r. ⌜ r ≡ positionOf s code ⌝ }
+{
+    let weights = s.weights;
+    let ladder = value(2048 + code, &weights, constants::SID_DAC_LEAKAGE);
+    let normal = floats::narrow((ladder - s.zero) / s.span);
+    floats::clamp(normal * 2047.0, 0.0, 2047.0)
+}
+
+fn positions_finite(s: Scale) -> bool
+    ensures { λ r. ⌜ r ≡ positionsFiniteOf s ⌝ }
+{
+    let mut all = true;
+    let mut code = 0;
+    while code < 2048 {
+        all = all & floats::is_finite(position(s, code));
+        code += 1;
+    }
+    all
+}
+
+// Writes the 2,048 positions.
+fn put_positions(s: Scale, out: &mut [u8])
+    requires { ⌜ length (now out) ≡ 8192 ⌝ }
+    ensures { λ _. ⌜ now (out .exit) ≡ positionBytesOf s ⌝ }
+{
+    let mut code = 0;
+    while code < 2048 {
+        wire::put_f32(out, 4 * code, position(s, code));
+        code += 1;
+    }
+}
+
+// ---- the calls of a user
+
+// Twelve values, or a refusal beside zeros.
+pub struct Nodes {
+    pub answer: Answer,
+    pub values: [f64; 12],
+}
+
+// One value, or a refusal beside 0.0.
+pub struct Level {
+    pub answer: Answer,
+    pub value: f64,
+}
+
+fn all_finite(xs: &[f64; 12]) -> bool
+    ensures { λ r. ⌜ r ≡ allFiniteOf (now (xs .entry)) ⌝ }
+{
+    let mut all = true;
+    let mut i = 0;
+    while i < 12 {
+        all = all & floats::is_finite_f64(xs[i]);
+        i += 1;
+    }
+    all
+}
+
+fn settle_nodes(arguments: bool, values: [f64; 12]) -> Nodes
+    ensures { λ r. ⌜ r ≡ settleNodesOf arguments values ⌝ }
+{
+    if arguments {
+        if all_finite(&values) {
+            return Nodes {
+                answer: Answer::Done,
+                values,
+            };
+        }
+        return Nodes {
+            answer: Answer::Domain,
+            values: [0.0; 12],
+        };
+    }
+    Nodes {
+        answer: Answer::Argument,
+        values: [0.0; 12],
+    }
+}
+
+fn settle_level(arguments: bool, value: f64) -> Level
+    ensures { λ r. ⌜ r ≡ settleLevelOf arguments value ⌝ }
+{
+    if arguments {
+        if floats::is_finite_f64(value) {
+            return Level {
+                answer: Answer::Done,
+                value,
+            };
+        }
+        return Level {
+            answer: Answer::Domain,
+            value: 0.0,
+        };
+    }
+    Level {
+        answer: Answer::Argument,
+        value: 0.0,
+    }
+}
+
+// Solves a network of twelve nodes, each linked to its neighbours only.
+pub fn solve_tridiagonal(
+    lower: &[f64; 12],
+    diagonal: &[f64; 12],
+    upper: &[f64; 12],
+    rhs: &[f64; 12],
+) -> Nodes
+    ensures { λ r. ⌜ r ≡ solveTridiagonalOf (now (lower .entry)) (now (diagonal .entry)) (now (upper .entry)) (now (rhs .entry)) ⌝ }
+{
+    let good = all_finite(lower) & all_finite(diagonal) & all_finite(upper) & all_finite(rhs);
+    settle_nodes(good, solve(lower, diagonal, upper, rhs))
+}
+
+// The weight of each bit of a ladder of twelve, by the ratio of its resistors.
+pub fn ladder_weights(two_r_over_r: f64, terminated: bool) -> Nodes
+    ensures { λ r. ⌜ r ≡ ladderWeightsOf «two_r_over_r» terminated ⌝ }
+{
+    settle_nodes(
+        floats::is_finite_f64(two_r_over_r),
+        weights(two_r_over_r, terminated),
+    )
+}
+
+// The level of a code below 4,096.
+pub fn ladder_value(code: usize, weights: &[f64; 12], leakage: f64) -> Level
+    ensures { λ r. ⌜ r ≡ ladderValueOf code (now (weights .entry)) leakage ⌝ }
+{
+    let good = (code < 4096) & all_finite(weights) & floats::is_finite_f64(leakage);
+    settle_level(good, value(code, weights, leakage))
+}
+
+// Writes the control position of each of the 2,048 cutoff codes, as little-endian f32, into 8,192 lent bytes.
+pub fn build_cutoff_control_positions(positions: &mut [u8]) -> Answer
+    ensures { λ r. ⌜ (r, now (positions .exit)) ≡ buildCutoffControlPositionsOf (now (positions .entry)) ⌝ }
+{
+    if positions.len() == 8192 {
+        let s = cutoff_scale();
+        if positions_finite(s) {
+            put_positions(s, positions);
+            return Answer::Done;
+        }
+        return Answer::Domain;
+    }
+    Answer::Argument
 }

@@ -47,10 +47,10 @@ loop-again c =
     let a = l .before .args in
     let bit = l .loop .bit in
     let level : c .before .if1 .level ≡ levelAt (a .code) (a .leakage) bit =
-        ⊎-elim
-        (λ w. rw (w .1, ← l .loop .inv .1, eq-eqb _ _ (w .0 .taken)))
-        (λ w. rw (w .1, ← l .loop .inv .1, ne-eqb _ _ (w .0 .left)))
-        (c .before .if1 .came) in
+    ⊎-elim
+    (λ w. rw (w .1, ← l .loop .inv .1, eq-eqb _ _ (w .0 .taken)))
+    (λ w. rw (w .1, ← l .loop .inv .1, ne-eqb _ _ (w .0 .left)))
+    (c .before .if1 .came) in
     (search needs, rw (l .loop .inv .1) (halved (a .code) bit), rw (l .loop .inv .2, level) (sum-more _ bit))
 
 -- src/lib.rt:153:1

@@ -1,3 +1,4 @@
+use Rattle.ladder.specs.Ladder.{weightsOf}
 use borrow.Author.Needs.{needs}
 use Rattle.ladder.proofs.weights.Statement.{statement}
 use Rattle.ladder.proofs.weights.Tie as tie
@@ -21,7 +22,8 @@ normalised-requires c κs = search needs
 
 -- src/lib.rt:146:1
 returns : tie.Need-returns
-returns c = ?
+unfolding weightsOf
+returns c = simp (c .normalised .ensures, c .before .before .responses .ensures, c .before .before .before .before .diagonal .ensures)
 
 pub weights-spec : {M : Type 1} → statement M
 weights-spec =
