@@ -11,11 +11,11 @@ use lib.Dec.{eqb}
 use lib.ListN.{length, set, replicate, length-set, length-append, getD-replicate, List·getD-append}
 use lib.Seq.{getD-set-same, getD-set-other, getD-at, ext-getD}
 use lib.Ieee.{Float, nan, binary32, toBits}
-use borrow.Author.Tests.{eqb-true, eqb-false, eq-eqb, ne-eqb, lt-ltb, le-ltb}
+use borrow.Author.Tests.{eqb-true, eqb-false, eq-eqb, ne-eqb}
 use Rattle.wire.specs.Wire.{floatBytes, putAt, rows}
 use Rattle.wire.proofs.Laws.{length-bytesOf, putAt-whole, length-rows, rows-put}
-use Rattle.ladder.specs.Arithmetic.{_⊕_, _⊖_, _⊗_, _⊘_, f64}
-use Rattle.ladder.specs.Ladder.{at, tabulated, sumOf, cAt, dAt, resultFrom}
+use Rattle.ladder.specs.Arithmetic.{_⊕_, _⊖_, _⊗_}
+use Rattle.ladder.specs.Ladder.{at, tabulated, sumOf, nextRowOf, rowAt, resultFrom}
 
 -- ---- lists
 
@@ -92,23 +92,10 @@ halved n i = rw (div-div-eq-div-mul n (2 ^ i) 2, add-one, pow-suc)
 
 -- ---- the elimination and the substitution
 
--- a row from the row before it
-module _ (lower diagonal upper : List Float) where
-  pub c-inner : (i : ℕ) {c : Float} → 1 ≤ i → i + 1 < 12 → c ≡ cAt lower diagonal upper (i - 1) → at upper i ⊘ (at diagonal i ⊖ at lower i ⊗ c) ≡ cAt lower diagonal upper i
-  unfolding cAt
-  c-inner zero h l e = absurd (omega arith)
-  c-inner (suc i) h l e = let q : suc i - 1 ≡ i = omega arith in rw (lt-ltb _ _ l, e, q)
-
-  pub c-last : (i : ℕ) → 12 ≤ i + 1 → f64 0 ≡ cAt lower diagonal upper i
-  unfolding cAt
-  c-last zero l = absurd (omega arith)
-  c-last (suc i) l = rw (le-ltb _ _ l)
-
-  pub d-row : (rhs : List Float) (i : ℕ) {c d : Float} → 1 ≤ i → c ≡ cAt lower diagonal upper (i - 1) → d ≡ dAt lower diagonal upper rhs (i - 1)
-      → (at rhs i ⊖ at lower i ⊗ d) ⊘ (at diagonal i ⊖ at lower i ⊗ c) ≡ dAt lower diagonal upper rhs i
-  unfolding dAt
-  d-row rhs zero h e e′ = absurd (omega arith)
-  d-row rhs (suc i) h e e′ = let q : suc i - 1 ≡ i = omega arith in rw (e, e′, q)
+pub row-next : (lower diagonal upper rhs : List Float) (i : ℕ) → 1 ≤ i → nextRowOf lower diagonal upper rhs i (rowAt lower diagonal upper rhs (i - 1)) ≡ rowAt lower diagonal upper rhs i
+unfolding rowAt
+row-next lower diagonal upper rhs zero h = absurd (omega arith)
+row-next lower diagonal upper rhs (suc i) h = let q : suc i - 1 ≡ i = omega arith in rw q
 
 -- a row from the row below it
 pub result-row : (c d : List Float) (i : ℕ) {x : Float} → i < 11 → x ≡ resultFrom c d (11 - (i + 1)) (i + 1) → at d i ⊖ at c i ⊗ x ≡ resultFrom c d (11 - i) i

@@ -8,8 +8,8 @@ use lib.ListN.{length, replicate}
 use lib.Ieee.{Float}
 use lib.Ieee.Scale.{finite}
 use Rattle.answers.specs.declared.Answer.{Answer}
-use Rattle.answers.specs.declared.Answer.the-variants.{Done, Domain, Argument}
-use Rattle.answers.specs.Answers.{isDoneOf}
+use Rattle.answers.specs.declared.Answer.the-variants.{Domain, Argument}
+use Rattle.answers.specs.Answers.{isDoneOf, firstOf, unlessOf}
 use Rattle.wire.specs.First.{every}
 use Rattle.wire.specs.Wire.{floatBytes, rows}
 use Rattle.ladder.specs.Arithmetic.{f64}
@@ -18,9 +18,9 @@ use Rattle.ladder.specs.declared.Nodes.{Nodes}
 use Rattle.ladder.specs.declared.Level.{Level}
 use Rattle.ladder.specs.declared.Scale.{Scale}
 
--- The answer to a call, from whether its arguments and its results are good.
-abbrev pub answerOf : Bool → Bool → Answer
-answerOf arguments results = cond arguments (cond results Done Domain) Argument
+-- The answer to a call, by whether its arguments and then its results are good.
+abbrev pub judgeOf : Bool → Bool → Answer
+judgeOf arguments results = firstOf (unlessOf arguments Argument) (unlessOf results Domain)
 
 -- Each of twelve is finite.
 unfoldable pub allFiniteOf : List Float → Bool
@@ -28,7 +28,7 @@ allFiniteOf xs = every (λ i. finite (at xs i)) 12
 
 abbrev pub settleNodesOf : Bool → List Float → Nodes
 settleNodesOf arguments values =
-    let answer = answerOf arguments (allFiniteOf values) in
+    let answer = judgeOf arguments (allFiniteOf values) in
     record { answer = answer; values = cond (isDoneOf answer) values (replicate 12 (f64 0)) }
 
 unfoldable pub solveTridiagonalOf : List Float → List Float → List Float → List Float → Nodes
@@ -40,7 +40,7 @@ ladderWeightsOf two-r-over-r terminated = settleNodesOf (finite two-r-over-r) (w
 
 abbrev pub settleLevelOf : Bool → Float → Level
 settleLevelOf arguments value =
-    let answer = answerOf arguments (finite value) in
+    let answer = judgeOf arguments (finite value) in
     record { answer = answer; value = cond (isDoneOf answer) value (f64 0) }
 
 -- A code has a bit for each of the twelve weights.
@@ -58,5 +58,5 @@ positionBytesOf s = rows (λ code. floatBytes (positionOf s code)) 2048
 -- The answer, and the lent bytes after the call.
 unfoldable pub buildCutoffControlPositionsOf : List ℕ → Answer × List ℕ
 buildCutoffControlPositionsOf lent =
-    let answer = answerOf (eqb (length lent) 8192) (positionsFiniteOf cutoffScaleOf) in
+    let answer = judgeOf (eqb (length lent) 8192) (positionsFiniteOf cutoffScaleOf) in
     (answer, cond (isDoneOf answer) (positionBytesOf cutoffScaleOf) lent)

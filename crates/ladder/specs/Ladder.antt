@@ -9,6 +9,7 @@ use Rattle.constants.specs.Values.{SID-FILTER-DAC-TWO-R-OVER-R, SID-DAC-LEAKAGE
 use Rattle.floats.specs.Arithmetic.{f32}
 use Rattle.floats.specs.Floats.{clampOf, narrowOf}
 use Rattle.ladder.specs.Arithmetic.{_⊕_, _⊖_, _⊗_, _⊘_, f64}
+use Rattle.ladder.specs.declared.Row.{Row}
 use Rattle.ladder.specs.declared.Swept.{Swept}
 use Rattle.ladder.specs.declared.Scale.{Scale}
 
@@ -30,22 +31,26 @@ sumOf f (suc n) = sumOf f n ⊕ f n
 
 -- ---- `solve_tridiagonal`
 
-module _ (lower diagonal upper : List Float) where
-  -- the denominator of a row, from the row before's c
-  abbrev pub denominatorOf : Float → ℕ → Float
-  denominatorOf c i = at diagonal i ⊖ at lower i ⊗ c
+-- The first row after the elimination.
+abbrev pub firstRowOf : List Float → List Float → List Float → Row
+firstRowOf diagonal upper rhs = record { c = at upper 0 ⊘ at diagonal 0; d = at rhs 0 ⊘ at diagonal 0 }
 
-  unfoldable pub cAt : ℕ → Float
-  cAt zero = at upper 0 ⊘ at diagonal 0
-  cAt (suc i) = cond (ltb (suc i + 1) 12) (at upper (suc i) ⊘ denominatorOf (cAt i) (suc i)) (f64 0)
+module _ (lower diagonal upper rhs : List Float) where
+  -- Row i from the row before it. The last row's c is 0.0.
+  unfoldable pub nextRowOf : ℕ → Row → Row
+  nextRowOf i before =
+      let denominator = at diagonal i ⊖ at lower i ⊗ before .c in
+      record {
+        c = cond (ltb (i + 1) 12) (at upper i ⊘ denominator) (f64 0);
+        d = (at rhs i ⊖ at lower i ⊗ before .d) ⊘ denominator;
+      }
 
-  unfoldable pub dAt : List Float → ℕ → Float
-  dAt rhs zero = at rhs 0 ⊘ at diagonal 0
-  dAt rhs (suc i) = (at rhs (suc i) ⊖ at lower (suc i) ⊗ dAt rhs i) ⊘ denominatorOf (cAt i) (suc i)
+  unfoldable pub rowAt : ℕ → Row
+  rowAt zero = firstRowOf diagonal upper rhs
+  rowAt (suc i) = nextRowOf (suc i) (rowAt i)
 
-  -- The elimination, from the first row to the last.
-  abbrev pub sweepOf : List Float → Swept
-  sweepOf rhs = record { c = tabulated cAt 12; d = tabulated (dAt rhs) 12 }
+  abbrev pub sweepOf : Swept
+  sweepOf = record { c = tabulated (λ i. rowAt i .c) 12; d = tabulated (λ i. rowAt i .d) 12 }
 
 -- Row i of the solution, with n rows below it: the last is d, and each other takes the one below it in.
 unfoldable pub resultFrom : List Float → List Float → ℕ → ℕ → Float

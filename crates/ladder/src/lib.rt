@@ -2,33 +2,65 @@
 ghost use mathlib.Core.Path.{_≡_};
 ghost use Prim.Native.Nat.{_<_, _≤_};
 ghost use lib.ListN.{length};
-ghost use Rattle.ladder.specs.Ladder.{positionOf, cutoffScaleOf, sweepOf, substituteOf, solveOf, lowerAt, upperAt, diagonalOf, rhsAt, responseOf, responsesOf, totalOf, normalisedOf, weightsOf, valueOf, tabulated};
-ghost use Rattle.ladder.specs.Calls.{allFiniteOf, settleNodesOf, settleLevelOf, solveTridiagonalOf, ladderWeightsOf, ladderValueOf, positionsFiniteOf, positionBytesOf, buildCutoffControlPositionsOf};
+ghost use Rattle.ladder.specs.Ladder.{firstRowOf, nextRowOf, positionOf, cutoffScaleOf, sweepOf, substituteOf, solveOf, lowerAt, upperAt, diagonalOf, rhsAt, responseOf, responsesOf, totalOf, normalisedOf, weightsOf, valueOf, tabulated};
+ghost use Rattle.ladder.specs.Calls.{allFiniteOf, judgeOf, settleNodesOf, settleLevelOf, solveTridiagonalOf, ladderWeightsOf, ladderValueOf, positionsFiniteOf, positionBytesOf, buildCutoffControlPositionsOf};
 use answers::Answer;
 
-// What the elimination leaves: row i of the network reads x[i] + c[i] * x[i + 1] = d[i].
+// A row of the network after the elimination: x[i] + c * x[i + 1] = d.
+struct Row {
+    c: f64,
+    d: f64,
+}
+
 struct Swept {
     c: [f64; 12],
     d: [f64; 12],
 }
 
-// The elimination, from the first row to the last. The last row has no entry above its diagonal.
+fn first_row(diagonal: &[f64; 12], upper: &[f64; 12], rhs: &[f64; 12]) -> Row
+    ensures { λ r. ⌜ r ≡ firstRowOf (now (diagonal .entry)) (now (upper .entry)) (now (rhs .entry)) ⌝ }
+{
+    Row {
+        c: upper[0] / diagonal[0],
+        d: rhs[0] / diagonal[0],
+    }
+}
+
+// A row from the row before it. The last one has no entry above its diagonal.
+fn next_row(
+    lower: &[f64; 12],
+    diagonal: &[f64; 12],
+    upper: &[f64; 12],
+    rhs: &[f64; 12],
+    i: usize,
+    before: Row,
+) -> Row
+    requires { ⌜ i < 12 ⌝ }
+    ensures { λ r. ⌜ r ≡ nextRowOf (now (lower .entry)) (now (diagonal .entry)) (now (upper .entry)) (now (rhs .entry)) i before ⌝ }
+{
+    let denominator = diagonal[i] - lower[i] * before.c;
+    let d = (rhs[i] - lower[i] * before.d) / denominator;
+    if i + 1 < 12 {
+        return Row {
+            c: upper[i] / denominator,
+            d,
+        };
+    }
+    Row { c: 0.0, d }
+}
+
+// The elimination, from the first row to the last.
 fn sweep(lower: &[f64; 12], diagonal: &[f64; 12], upper: &[f64; 12], rhs: &[f64; 12]) -> Swept
     ensures { λ r. ⌜ r ≡ sweepOf (now (lower .entry)) (now (diagonal .entry)) (now (upper .entry)) (now (rhs .entry)) ⌝ }
 {
-    let mut c = [0.0; 12];
-    let mut d = [0.0; 12];
-    c[0] = upper[0] / diagonal[0];
-    d[0] = rhs[0] / diagonal[0];
+    let mut row = first_row(diagonal, upper, rhs);
+    let mut c = [row.c; 12];
+    let mut d = [row.d; 12];
     let mut i = 1;
     while i < 12 {
-        let denominator = diagonal[i] - lower[i] * c[i - 1];
-        c[i] = if i + 1 < 12 {
-            upper[i] / denominator
-        } else {
-            0.0
-        };
-        d[i] = (rhs[i] - lower[i] * d[i - 1]) / denominator;
+        row = next_row(lower, diagonal, upper, rhs, i, row);
+        c[i] = row.c;
+        d[i] = row.d;
         i += 1;
     }
     Swept { c, d }
@@ -288,23 +320,25 @@ fn all_finite(xs: &[f64; 12]) -> bool
     all
 }
 
+// 10 for the arguments, then 6 for the results.
+fn judge(arguments: bool, results: bool) -> Answer
+    ensures { λ r. ⌜ r ≡ judgeOf arguments results ⌝ }
+{
+    answers::first(
+        answers::unless(arguments, Answer::Argument),
+        answers::unless(results, Answer::Domain),
+    )
+}
+
 fn settle_nodes(arguments: bool, values: [f64; 12]) -> Nodes
     ensures { λ r. ⌜ r ≡ settleNodesOf arguments values ⌝ }
 {
-    if arguments {
-        if all_finite(&values) {
-            return Nodes {
-                answer: Answer::Done,
-                values,
-            };
-        }
-        return Nodes {
-            answer: Answer::Domain,
-            values: [0.0; 12],
-        };
+    let answer = judge(arguments, all_finite(&values));
+    if answers::is_done(answer) {
+        return Nodes { answer, values };
     }
     Nodes {
-        answer: Answer::Argument,
+        answer,
         values: [0.0; 12],
     }
 }
@@ -312,22 +346,11 @@ fn settle_nodes(arguments: bool, values: [f64; 12]) -> Nodes
 fn settle_level(arguments: bool, value: f64) -> Level
     ensures { λ r. ⌜ r ≡ settleLevelOf arguments value ⌝ }
 {
-    if arguments {
-        if floats::is_finite_f64(value) {
-            return Level {
-                answer: Answer::Done,
-                value,
-            };
-        }
-        return Level {
-            answer: Answer::Domain,
-            value: 0.0,
-        };
+    let answer = judge(arguments, floats::is_finite_f64(value));
+    if answers::is_done(answer) {
+        return Level { answer, value };
     }
-    Level {
-        answer: Answer::Argument,
-        value: 0.0,
-    }
+    Level { answer, value: 0.0 }
 }
 
 // Solves a network of twelve nodes, each linked to its neighbours only.
