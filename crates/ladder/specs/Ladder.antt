@@ -3,7 +3,7 @@ use Prim.Native.Nat.{ℕ, zero, suc, _+_, _-_, _/_, _%_, _^_}
 use mathlib.Core.Bool.{Bool, false, cond, _&&_}
 use mathlib.Core.List.{List, [], _∷_, _++_}
 use lib.Dec.{ltb, eqb}
-use lib.ListN.{getD}
+use lib.ListN.{getD, replicate}
 use lib.Ieee.{Float, nan, binary32, neg, mul}
 use Rattle.constants.specs.Values.{SID-FILTER-DAC-TWO-R-OVER-R, SID-DAC-LEAKAGE}
 use Rattle.floats.specs.Arithmetic.{f32}
@@ -72,12 +72,12 @@ one = f64 0x3ff0_0000_0000_0000
 abbrev addIf : Bool → Float → Float → Float
 addIf on x y = cond on (x ⊕ y) x
 
--- The links to the node below and to the node above, each a conductance of 1.0.
-abbrev pub lowerAt : ℕ → Float
-lowerAt node = cond (ltb 0 node) (neg one) (f64 0)
+-- The links to the node below and to the node above, each of conductance 1.0, and 0.0 where there is no neighbour.
+abbrev pub lowerOf : List Float
+lowerOf = f64 0 ∷ replicate 11 (neg one)
 
-abbrev pub upperAt : ℕ → Float
-upperAt node = cond (ltb (node + 1) 12) (neg one) (f64 0)
+abbrev pub upperOf : List Float
+upperOf = replicate 11 (neg one) ++ f64 0 ∷ []
 
 -- What meets at a node, added to 0.0 in this order: its branch, the link below it, the link above it, the termination at node 0 and the
 -- load at node 11.
@@ -89,17 +89,17 @@ diagonalAt source terminated node =
     let ended = addIf (eqb node 0 && terminated) linked source in
     addIf (eqb node 11) ended one
 
--- The active node's branch is driven.
-abbrev pub rhsAt : Float → ℕ → ℕ → Float
-rhsAt source active node = addIf (eqb node active) (f64 0) source
-
 abbrev pub diagonalOf : Float → Bool → List Float
 diagonalOf source terminated = tabulated (diagonalAt source terminated) 12
+
+-- The right side: the active node's branch is driven.
+abbrev pub driveOf : Float → ℕ → List Float
+driveOf source active = tabulated (λ node. addIf (eqb node active) (f64 0) source) 12
 
 -- The level of the last node when one node is driven, by its source conductance and the diagonal.
 unfoldable pub responseOf : Float → List Float → ℕ → Float
 responseOf source diagonal active =
-    at (solveOf (tabulated lowerAt 12) diagonal (tabulated upperAt 12) (tabulated (rhsAt source active) 12)) 11
+    at (solveOf lowerOf diagonal upperOf (driveOf source active)) 11
 
 abbrev pub responsesOf : Float → List Float → List Float
 responsesOf source diagonal = tabulated (responseOf source diagonal) 12

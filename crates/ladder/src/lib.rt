@@ -2,7 +2,7 @@
 ghost use mathlib.Core.Path.{_≡_};
 ghost use Prim.Native.Nat.{_<_, _≤_};
 ghost use lib.ListN.{length};
-ghost use Rattle.ladder.specs.Ladder.{firstRowOf, nextRowOf, positionOf, cutoffScaleOf, sweepOf, substituteOf, solveOf, lowerAt, upperAt, diagonalOf, rhsAt, responseOf, responsesOf, totalOf, normalisedOf, weightsOf, valueOf, tabulated};
+ghost use Rattle.ladder.specs.Ladder.{firstRowOf, nextRowOf, positionOf, cutoffScaleOf, sweepOf, substituteOf, solveOf, diagonalOf, driveOf, responseOf, responsesOf, totalOf, normalisedOf, weightsOf, valueOf};
 ghost use Rattle.ladder.specs.Calls.{allFiniteOf, judgeOf, settleNodesOf, settleLevelOf, solveTridiagonalOf, ladderWeightsOf, ladderValueOf, positionsFiniteOf, positionBytesOf, buildCutoffControlPositionsOf};
 use answers::Answer;
 
@@ -87,43 +87,13 @@ fn solve(lower: &[f64; 12], diagonal: &[f64; 12], upper: &[f64; 12], rhs: &[f64;
 }
 
 // The links of each node to the node below it and to the node above it, each a conductance of 1.0.
-fn lower_links() -> [f64; 12]
-    ensures { λ r. ⌜ r ≡ tabulated lowerAt 12 ⌝ }
-{
-    [
-        0.0,
-        -1.0,
-        -1.0,
-        -1.0,
-        -1.0,
-        -1.0,
-        -1.0,
-        -1.0,
-        -1.0,
-        -1.0,
-        -1.0,
-        -1.0,
-    ]
-}
+const LOWER: [f64; 12] = [
+    0.0, -1.0, -1.0, -1.0, -1.0, -1.0, -1.0, -1.0, -1.0, -1.0, -1.0, -1.0,
+];
 
-fn upper_links() -> [f64; 12]
-    ensures { λ r. ⌜ r ≡ tabulated upperAt 12 ⌝ }
-{
-    [
-        -1.0,
-        -1.0,
-        -1.0,
-        -1.0,
-        -1.0,
-        -1.0,
-        -1.0,
-        -1.0,
-        -1.0,
-        -1.0,
-        -1.0,
-        0.0,
-    ]
-}
+const UPPER: [f64; 12] = [
+    -1.0, -1.0, -1.0, -1.0, -1.0, -1.0, -1.0, -1.0, -1.0, -1.0, -1.0, 0.0,
+];
 
 // What meets at each node: its branch, a link to each neighbour, the termination at the first and the load at the last.
 fn diagonal(source: f64, terminated: bool) -> [f64; 12]
@@ -156,7 +126,7 @@ fn diagonal(source: f64, terminated: bool) -> [f64; 12]
 // The active node's branch is driven.
 fn drive(source: f64, active: usize) -> [f64; 12]
     requires { ⌜ active < 12 ⌝ }
-    ensures { λ r. ⌜ r ≡ tabulated (rhsAt source active) 12 ⌝ }
+    ensures { λ r. ⌜ r ≡ driveOf source active ⌝ }
 {
     let mut rhs = [0.0; 12];
     rhs[active] = 0.0 + source;
@@ -168,12 +138,7 @@ fn response(source: f64, diagonal: &[f64; 12], active: usize) -> f64
     requires { ⌜ active < 12 ⌝ }
     ensures { λ r. ⌜ r ≡ responseOf source (now (diagonal .entry)) active ⌝ }
 {
-    let solved = solve(
-        &lower_links(),
-        diagonal,
-        &upper_links(),
-        &drive(source, active),
-    );
+    let solved = solve(&LOWER, diagonal, &UPPER, &drive(source, active));
     solved[11]
 }
 
