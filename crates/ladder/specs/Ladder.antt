@@ -26,12 +26,12 @@ tabulated f (suc n) = tabulated f n ++ f n ∷ []
 
 -- `sum()` of f 0 to f (n - 1), in this order. In rustc 1.95 it starts from -0.0.
 unfoldable pub sumOf : (ℕ → Float) → ℕ → Float
-sumOf f zero = neg (f64 0)
+sumOf f zero = f64 0x8000_0000_0000_0000
 sumOf f (suc n) = sumOf f n ⊕ f n
 
 -- ---- `solve_tridiagonal`
 
--- The first row after the elimination.
+-- The elimination's first row.
 abbrev pub firstRowOf : List Float → List Float → List Float → Row
 firstRowOf diagonal upper rhs = record { c = at upper 0 ⊘ at diagonal 0; d = at rhs 0 ⊘ at diagonal 0 }
 
@@ -96,13 +96,13 @@ diagonalOf source terminated = tabulated (diagonalAt source terminated) 12
 abbrev pub driveOf : Float → ℕ → List Float
 driveOf source active = tabulated (λ node. addIf (eqb node active) (f64 0) source) 12
 
--- The level of the last node when one node is driven, by its source conductance and the diagonal.
-unfoldable pub responseOf : Float → List Float → ℕ → Float
-responseOf source diagonal active =
+-- The last node's level when one node is driven.
+unfoldable pub drivenLevelOf : Float → List Float → ℕ → Float
+drivenLevelOf source diagonal active =
     at (solveOf lowerOf diagonal upperOf (driveOf source active)) 11
 
-abbrev pub responsesOf : Float → List Float → List Float
-responsesOf source diagonal = tabulated (responseOf source diagonal) 12
+abbrev pub drivenLevelsOf : Float → List Float → List Float
+drivenLevelsOf source diagonal = tabulated (drivenLevelOf source diagonal) 12
 
 abbrev pub totalOf : List Float → Float
 totalOf xs = sumOf (at xs) 12
@@ -113,7 +113,7 @@ normalisedOf xs = tabulated (λ i. at xs i ⊘ totalOf xs) 12
 unfoldable pub weightsOf : Float → Bool → List Float
 weightsOf two-r-over-r terminated =
     let source = one ⊘ two-r-over-r in
-    normalisedOf (responsesOf source (diagonalOf source terminated))
+    normalisedOf (drivenLevelsOf source (diagonalOf source terminated))
 
 -- ---- `ladder_value`
 

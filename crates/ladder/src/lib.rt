@@ -2,9 +2,11 @@
 ghost use mathlib.Core.Path.{_≡_};
 ghost use Prim.Native.Nat.{_<_, _≤_};
 ghost use lib.ListN.{length};
-ghost use Rattle.ladder.specs.Ladder.{firstRowOf, nextRowOf, positionOf, cutoffScaleOf, sweepOf, substituteOf, solveOf, diagonalOf, driveOf, responseOf, responsesOf, totalOf, normalisedOf, weightsOf, valueOf};
+ghost use Rattle.ladder.specs.Ladder.{firstRowOf, nextRowOf, positionOf, cutoffScaleOf, sweepOf, substituteOf, solveOf, diagonalOf, driveOf, drivenLevelOf, drivenLevelsOf, totalOf, normalisedOf, weightsOf, valueOf};
 ghost use Rattle.ladder.specs.Calls.{allFiniteOf, judgeOf, settleNodesOf, settleLevelOf, solveTridiagonalOf, ladderWeightsOf, ladderValueOf, positionsFiniteOf, positionBytesOf, buildCutoffControlPositionsOf};
 use answers::Answer;
+
+// ---- solve_tridiagonal
 
 // A row of the network after the elimination: x[i] + c * x[i + 1] = d.
 struct Row {
@@ -12,6 +14,7 @@ struct Row {
     d: f64,
 }
 
+// All rows after the elimination.
 struct Swept {
     c: [f64; 12],
     d: [f64; 12],
@@ -49,7 +52,7 @@ fn next_row(
     Row { c: 0.0, d }
 }
 
-// The elimination, from the first row to the last.
+// The elimination, from the first row to the last. The arrays start with the first row in every place.
 fn sweep(lower: &[f64; 12], diagonal: &[f64; 12], upper: &[f64; 12], rhs: &[f64; 12]) -> Swept
     ensures { λ r. ⌜ r ≡ sweepOf (now (lower .entry)) (now (diagonal .entry)) (now (upper .entry)) (now (rhs .entry)) ⌝ }
 {
@@ -86,44 +89,54 @@ fn solve(lower: &[f64; 12], diagonal: &[f64; 12], upper: &[f64; 12], rhs: &[f64;
     substitute(sweep(lower, diagonal, upper, rhs))
 }
 
+// ---- ladder_weights
+
 // The links of each node to the node below it and to the node above it, each a conductance of 1.0.
 const LOWER: [f64; 12] = [
-    0.0, -1.0, -1.0, -1.0, -1.0, -1.0, -1.0, -1.0, -1.0, -1.0, -1.0, -1.0,
+    0.0,
+    -1.0,
+    -1.0,
+    -1.0,
+    -1.0,
+    -1.0,
+    -1.0,
+    -1.0,
+    -1.0,
+    -1.0,
+    -1.0,
+    -1.0,
 ];
 
 const UPPER: [f64; 12] = [
-    -1.0, -1.0, -1.0, -1.0, -1.0, -1.0, -1.0, -1.0, -1.0, -1.0, -1.0, 0.0,
+    -1.0,
+    -1.0,
+    -1.0,
+    -1.0,
+    -1.0,
+    -1.0,
+    -1.0,
+    -1.0,
+    -1.0,
+    -1.0,
+    -1.0,
+    0.0,
 ];
 
-// What meets at each node: its branch, a link to each neighbour, the termination at the first and the load at the last.
+// What meets at each node: its branch, a link to each neighbour, the load at the last and the termination at the first.
 fn diagonal(source: f64, terminated: bool) -> [f64; 12]
     ensures { λ r. ⌜ r ≡ diagonalOf source terminated ⌝ }
 {
     let branch = 0.0 + source;
-    let first = if terminated {
-        branch + 1.0 + source
-    } else {
-        branch + 1.0
-    };
-    let inner = branch + 1.0 + 1.0;
-    let last = branch + 1.0 + 1.0;
-    [
-        first,
-        inner,
-        inner,
-        inner,
-        inner,
-        inner,
-        inner,
-        inner,
-        inner,
-        inner,
-        inner,
-        last,
-    ]
+    let mut nodes = [branch + 1.0 + 1.0; 12];
+    nodes[0] = branch + 1.0;
+    nodes[11] = branch + 1.0 + 1.0;
+    if terminated {
+        nodes[0] = nodes[0] + source;
+    }
+    nodes
 }
 
-// The active node's branch is driven.
+// The right side when one node's branch is driven.
 fn drive(source: f64, active: usize) -> [f64; 12]
     requires { ⌜ active < 12 ⌝ }
     ensures { λ r. ⌜ r ≡ driveOf source active ⌝ }
@@ -133,32 +146,34 @@ fn drive(source: f64, active: usize) -> [f64; 12]
     rhs
 }
 
-// The level of the last node when one node is driven.
-fn response(source: f64, diagonal: &[f64; 12], active: usize) -> f64
+// The last node's level when one node is driven.
+fn driven_level(source: f64, diagonal: &[f64; 12], active: usize) -> f64
     requires { ⌜ active < 12 ⌝ }
-    ensures { λ r. ⌜ r ≡ responseOf source (now (diagonal .entry)) active ⌝ }
+    ensures { λ r. ⌜ r ≡ drivenLevelOf source (now (diagonal .entry)) active ⌝ }
 {
     let solved = solve(&LOWER, diagonal, &UPPER, &drive(source, active));
     solved[11]
 }
 
-fn responses(source: f64, diagonal: &[f64; 12]) -> [f64; 12]
-    ensures { λ r. ⌜ r ≡ responsesOf source (now (diagonal .entry)) ⌝ }
+fn driven_levels(source: f64, diagonal: &[f64; 12]) -> [f64; 12]
+    ensures { λ r. ⌜ r ≡ drivenLevelsOf source (now (diagonal .entry)) ⌝ }
 {
     let mut levels = [0.0; 12];
     let mut active = 0;
     while active < 12 {
-        levels[active] = response(source, diagonal, active);
+        levels[active] = driven_level(source, diagonal, active);
         active += 1;
     }
     levels
 }
 
-// The sum, from the zero that an iterator's sum starts from in rustc 1.95.
+// The zero that an iterator's sum of floats starts from in rustc 1.95.
+const SUM_START: f64 = -0.0;
+
 fn total(xs: &[f64; 12]) -> f64
     ensures { λ r. ⌜ r ≡ totalOf (now (xs .entry)) ⌝ }
 {
-    let mut sum = -0.0;
+    let mut sum = SUM_START;
     let mut i = 0;
     while i < 12 {
         sum = sum + xs[i];
@@ -185,14 +200,16 @@ fn weights(two_r_over_r: f64, terminated: bool) -> [f64; 12]
     ensures { λ r. ⌜ r ≡ weightsOf «two_r_over_r» terminated ⌝ }
 {
     let source = 1.0 / two_r_over_r;
-    normalised(&responses(source, &diagonal(source, terminated)))
+    normalised(&driven_levels(source, &diagonal(source, terminated)))
 }
+
+// ---- ladder_value
 
 // The sum of the weights of the code's bits, a bit that is off counting as its leakage.
 fn value(code: usize, weights: &[f64; 12], leakage: f64) -> f64
     ensures { λ r. ⌜ r ≡ valueOf code (now (weights .entry)) leakage ⌝ }
 {
-    let mut sum = -0.0;
+    let mut sum = SUM_START;
     let mut rest = code;
     let mut bit = 0;
     while bit < 12 {
@@ -204,7 +221,9 @@ fn value(code: usize, weights: &[f64; 12], leakage: f64) -> f64
     sum
 }
 
-// The cutoff DAC's weights with the level of code 0 and the span to code 2,047. Its twelfth bit is tied high, to 2,048.
+// ---- build_cutoff_control_positions
+
+// The cutoff DAC's weights, the level of its code 0 and the span from there to code 2,047. Its twelfth bit is tied high, so that code 0 is 2,048.
 struct Scale {
     weights: [f64; 12],
     zero: f64,
@@ -235,6 +254,7 @@ fn position(s: Scale, code: usize) -> f32
     floats::clamp(normal * 2047.0, 0.0, 2047.0)
 }
 
+// Each of the 2,048 positions is finite.
 fn positions_finite(s: Scale) -> bool
     ensures { λ r. ⌜ r ≡ positionsFiniteOf s ⌝ }
 {
@@ -295,6 +315,7 @@ fn judge(arguments: bool, results: bool) -> Answer
     )
 }
 
+// What a call answers, and its values where it is done.
 fn settle_nodes(arguments: bool, values: [f64; 12]) -> Nodes
     ensures { λ r. ⌜ r ≡ settleNodesOf arguments values ⌝ }
 {

@@ -1,17 +1,14 @@
 use Prim.Native.Nat.{_≤_, _-_}
 use mathlib.Core.Path.{_≡_, refl}
-use native.Mathlib.Omega.{arith}
 use native.Mathlib.Numerals.{add-one}
+use native.Mathlib.Omega.{arith}
 use lib.Ieee.Scale.{finite}
-use Rattle.wire.specs.First.{every}
-use Rattle.ladder.specs.Ladder.{at}
-use Rattle.ladder.specs.Calls.{allFiniteOf}
 use borrow.Author.Needs.{needs}
+use Rattle.wire.specs.First.{every}
+use Rattle.ladder.specs.Calls.{allFiniteOf}
+use Rattle.ladder.specs.Ladder.{at}
 use Rattle.ladder.proofs.all_finite.Statement.{statement}
 use Rattle.ladder.proofs.all_finite.Tie as tie
-use Rattle.ladder.proofs.all_finite.Reads as reads
-use Rattle.ladder.proofs.all_finite.Lts as lts
-use Rattle.floats.proofs.is_finite_f64.Reads as is-finite-f64-reads
 
 abbrev Inv-loop : tie.InvT-loop
 Inv-loop xs all₀ i₀ all i = (i ≤ 12) × (all ≡ every (λ k. finite (at xs k)) i)
@@ -19,37 +16,29 @@ Inv-loop xs all₀ i₀ all i = (i ≤ 12) × (all ≡ every (λ k. finite (at x
 abbrev μ-loop : tie.MeasureT-loop
 μ-loop xs all₀ i₀ all i = 12 - i
 
--- src/lib.rt:246:5
 loop-holds : tie.Need-loop-holds Inv-loop μ-loop
 unfolding every
 loop-holds c = (search needs, refl)
 
--- src/lib.rt:247:43
 mul-is-finite-f64 : tie.Need-mul-is-finite-f64 Inv-loop μ-loop
 mul-is-finite-f64 c = search needs
 
--- src/lib.rt:247:43
 element-copy-out-is-finite-f64 : tie.Need-element-copy-out-is-finite-f64 Inv-loop μ-loop
 element-copy-out-is-finite-f64 c = search needs
 
--- src/lib.rt:247:21
 is-finite-f64-requires : tie.Need-is-finite-f64-requires Inv-loop μ-loop
 is-finite-f64-requires c κs = search needs
 
--- src/lib.rt:248:9
 add-i : tie.Need-add-i Inv-loop μ-loop
 add-i c = search needs
 
--- src/lib.rt:246:5
 loop-less : tie.Need-loop-less Inv-loop μ-loop
 loop-less c = search needs
 
--- src/lib.rt:246:5
 loop-again : tie.Need-loop-again Inv-loop μ-loop
 unfolding every
 loop-again c = (search needs, rw (add-one, c .before .before .before .loop .inv .1, c .is-finite-f64 .ensures))
 
--- src/lib.rt:241:1
 returns : tie.Need-returns Inv-loop μ-loop
 unfolding allFiniteOf
 returns c = let e : c .before .loop .i ≡ 12 = omega arith in rw e at (c .before .loop .inv .1)

@@ -1,15 +1,35 @@
-use mathlib.Core.Path.{refl}
-use mathlib.Core.Logic.{⊎-elim}
+use borrow.Author.Needs.{needs}
 use Rattle.ladder.specs.Ladder.{tabulated}
 use Rattle.ladder.proofs.diagonal.Statement.{statement}
 use Rattle.ladder.proofs.diagonal.Tie as tie
-use Rattle.ladder.proofs.diagonal.Reads as reads
-use Rattle.ladder.proofs.diagonal.Lts as lts
 
--- src/lib.rt:72:1
+array-write-nodes : tie.Need-array-write-nodes
+array-write-nodes c = search needs
+
+array-write-nodes-2 : tie.Need-array-write-nodes-2
+array-write-nodes-2 c = search needs
+
+array-read-nodes : tie.Need-array-read-nodes
+array-read-nodes c = search needs
+
+array-write-nodes-3 : tie.Need-array-write-nodes-3
+array-write-nodes-3 c = search needs
+
 returns : tie.Need-returns
 unfolding tabulated
-returns c = ⊎-elim (λ w. rw (w .1, w .0 .taken)) (λ w. rw (w .1, w .0 .left)) (c .if1 .came)
+returns c = rw (c .if1 .taken)
+
+returns-2 : tie.Need-returns-2
+unfolding tabulated
+returns-2 c = rw (c .if1 .left)
 
 pub diagonal-spec : {M : Type 1} → statement M
-diagonal-spec = tie.close (tie.spec returns)
+diagonal-spec =
+    tie.close
+    (tie.spec
+    array-write-nodes
+    array-write-nodes-2
+    array-read-nodes
+    array-write-nodes-3
+    returns
+    returns-2)

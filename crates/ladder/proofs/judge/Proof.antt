@@ -1,25 +1,16 @@
-
 use borrow.Author.Needs.{needs}
 use Rattle.ladder.proofs.judge.Statement.{statement}
 use Rattle.ladder.proofs.judge.Tie as tie
-use Rattle.ladder.proofs.judge.Reads as reads
-use Rattle.ladder.proofs.judge.Lts as lts
-use Rattle.answers.proofs.first.Reads as first-reads
-use Rattle.answers.proofs.unless.Reads as unless-reads
 
--- src/lib.rt:296:9
 unless-requires : tie.Need-unless-requires
 unless-requires c κs = search needs
 
--- src/lib.rt:297:9
 unless-requires-2 : tie.Need-unless-requires-2
 unless-requires-2 c κs = search needs
 
--- src/lib.rt:295:5
 first-requires : tie.Need-first-requires
 first-requires c κs = search needs
 
--- src/lib.rt:292:1
 returns : tie.Need-returns
 returns c = simp (c .first .ensures, c .before .unless2 .ensures, c .before .before .unless .ensures)
 

@@ -1,15 +1,12 @@
 use Prim.Native.Nat.{_≤_, _-_}
 use mathlib.Core.Path.{refl}
 use native.Mathlib.Omega.{arith}
+use borrow.Author.Needs.{needs}
 use Rattle.ladder.specs.Arithmetic.{_⊘_}
 use Rattle.ladder.specs.Ladder.{at, totalOf}
 use Rattle.ladder.proofs.Laws.{Filled, filled-none, filled-up, filled-all}
-use borrow.Author.Needs.{needs}
 use Rattle.ladder.proofs.normalised.Statement.{statement}
 use Rattle.ladder.proofs.normalised.Tie as tie
-use Rattle.ladder.proofs.normalised.Reads as reads
-use Rattle.ladder.proofs.normalised.Lts as lts
-use Rattle.ladder.proofs.total.Reads as total-reads
 
 abbrev Inv-loop : tie.InvT-loop
 Inv-loop xs sum shares₀ i₀ shares i = (i ≤ 12) × Filled (λ k. at xs k ⊘ totalOf xs) 0 i shares
@@ -17,45 +14,35 @@ Inv-loop xs sum shares₀ i₀ shares i = (i ≤ 12) × Filled (λ k. at xs k �
 abbrev μ-loop : tie.MeasureT-loop
 μ-loop xs sum shares₀ i₀ shares i = 12 - i
 
--- src/lib.rt:136:9
 total-requires : tie.Need-total-requires Inv-loop μ-loop
 total-requires c κs = search needs
 
--- src/lib.rt:139:5
 loop-holds : tie.Need-loop-holds Inv-loop μ-loop
 loop-holds c = (search needs, filled-none _ 0 refl)
 
--- src/lib.rt:140:21
 mul-shares : tie.Need-mul-shares Inv-loop μ-loop
 mul-shares c = search needs
 
--- src/lib.rt:140:21
 element-copy-out-shares : tie.Need-element-copy-out-shares Inv-loop μ-loop
 element-copy-out-shares c = search needs
 
--- src/lib.rt:140:9
 mul-shares-2 : tie.Need-mul-shares-2 Inv-loop μ-loop
 mul-shares-2 c = search needs
 
--- src/lib.rt:140:9
 array-write-shares : tie.Need-array-write-shares Inv-loop μ-loop
 array-write-shares c = search needs
 
--- src/lib.rt:141:9
 add-i : tie.Need-add-i Inv-loop μ-loop
 add-i c = search needs
 
--- src/lib.rt:139:5
 loop-less : tie.Need-loop-less Inv-loop μ-loop
 loop-less c = search needs
 
--- src/lib.rt:139:5
 loop-again : tie.Need-loop-again Inv-loop μ-loop
 loop-again c =
     let l = c .before .before in
     (search needs, filled-up _ (l .loop .shares) (l .loop .i) _ (omega arith) (rw (l .before .total .ensures)) 0 (l .loop .inv .1))
 
--- src/lib.rt:133:1
 returns : tie.Need-returns Inv-loop μ-loop
 returns c = filled-all _ (search needs) (omega arith) (c .before .loop .inv .1)
 

@@ -1,18 +1,14 @@
 use Prim.Native.Nat.{_≤_, _-_}
 use mathlib.Core.Path.{_≡_, refl}
-use native.Mathlib.Omega.{arith}
 use native.Mathlib.Numerals.{add-one}
+use native.Mathlib.Omega.{arith}
 use lib.Ieee.Scale.{finite}
-use Rattle.wire.specs.First.{every}
-use Rattle.ladder.specs.Ladder.{positionOf}
-use Rattle.ladder.specs.Calls.{positionsFiniteOf}
 use borrow.Author.Needs.{needs}
+use Rattle.wire.specs.First.{every}
+use Rattle.ladder.specs.Calls.{positionsFiniteOf}
+use Rattle.ladder.specs.Ladder.{positionOf}
 use Rattle.ladder.proofs.positions_finite.Statement.{statement}
 use Rattle.ladder.proofs.positions_finite.Tie as tie
-use Rattle.ladder.proofs.positions_finite.Reads as reads
-use Rattle.ladder.proofs.positions_finite.Lts as lts
-use Rattle.floats.proofs.is_finite.Reads as is-finite-reads
-use Rattle.ladder.proofs.position.Reads as position-reads
 
 abbrev Inv-loop : tie.InvT-loop
 Inv-loop s all₀ code₀ all code = (code ≤ 2048) × (all ≡ every (λ k. finite (positionOf s k)) code)
@@ -20,33 +16,26 @@ Inv-loop s all₀ code₀ all code = (code ≤ 2048) × (all ≡ every (λ k. fi
 abbrev μ-loop : tie.MeasureT-loop
 μ-loop s all₀ code₀ all code = 2048 - code
 
--- src/lib.rt:208:5
 loop-holds : tie.Need-loop-holds Inv-loop μ-loop
 unfolding every
 loop-holds c = (search needs, refl)
 
--- src/lib.rt:209:39
 position-requires : tie.Need-position-requires Inv-loop μ-loop
 position-requires c κs = search needs
 
--- src/lib.rt:209:21
 is-finite-requires : tie.Need-is-finite-requires Inv-loop μ-loop
 is-finite-requires c κs = search needs
 
--- src/lib.rt:210:9
 add-code : tie.Need-add-code Inv-loop μ-loop
 add-code c = search needs
 
--- src/lib.rt:208:5
 loop-less : tie.Need-loop-less Inv-loop μ-loop
 loop-less c = search needs
 
--- src/lib.rt:208:5
 loop-again : tie.Need-loop-again Inv-loop μ-loop
 unfolding every
 loop-again c = (search needs, rw (add-one, c .before .before .before .loop .inv .1, c .is-finite .ensures, c .before .position .ensures))
 
--- src/lib.rt:203:1
 returns : tie.Need-returns Inv-loop μ-loop
 unfolding positionsFiniteOf
 returns c = let e : c .before .loop .code ≡ 2048 = omega arith in rw e at (c .before .loop .inv .1)

@@ -2,18 +2,14 @@ use Prim.Native.Nat.{_≤_, _-_}
 use mathlib.Core.Path.{_≡_, refl, sym, _∙_}
 use native.Mathlib.Omega.{arith}
 use lib.ListN.{length}
-use Rattle.wire.specs.Wire.{floatBytes, putAt, rows}
-use Rattle.wire.proofs.Laws.{putAt-nil}
-use Rattle.ladder.proofs.Laws.{table-put, table-whole}
-use Rattle.ladder.specs.Ladder.{positionOf}
-use Rattle.ladder.specs.Calls.{positionBytesOf}
 use borrow.Author.Needs.{needs}
+use Rattle.wire.proofs.Laws.{putAt-nil}
+use Rattle.wire.specs.Wire.{floatBytes, putAt, rows}
+use Rattle.ladder.specs.Calls.{positionBytesOf}
+use Rattle.ladder.specs.Ladder.{positionOf}
+use Rattle.ladder.proofs.Laws.{table-put, table-whole}
 use Rattle.ladder.proofs.put_positions.Statement.{statement}
 use Rattle.ladder.proofs.put_positions.Tie as tie
-use Rattle.ladder.proofs.put_positions.Reads as reads
-use Rattle.ladder.proofs.put_positions.Lts as lts
-use Rattle.ladder.proofs.position.Reads as position-reads
-use Rattle.wire.proofs.put_f32.Reads as put-f32-reads
 
 abbrev Inv-loop : tie.InvT-loop
 Inv-loop s out₀ code₀ out code = (code ≤ 2048) × (length out ≡ length out₀) × (out ≡ putAt out₀ 0 (rows (λ k. floatBytes (positionOf s k)) code))
@@ -21,32 +17,25 @@ Inv-loop s out₀ code₀ out code = (code ≤ 2048) × (length out ≡ length o
 abbrev μ-loop : tie.MeasureT-loop
 μ-loop s out₀ code₀ out code = 2048 - code
 
--- src/lib.rt:221:5
 loop-holds : tie.Need-loop-holds Inv-loop μ-loop
 unfolding rows
 loop-holds c = (search needs, refl, sym (putAt-nil _ 0))
 
--- src/lib.rt:222:28
 mul-put-f32 : tie.Need-mul-put-f32 Inv-loop μ-loop
 mul-put-f32 c = search needs
 
--- src/lib.rt:222:38
 position-requires : tie.Need-position-requires Inv-loop μ-loop
 position-requires c κs = search needs
 
--- src/lib.rt:222:9
 put-f32-requires : tie.Need-put-f32-requires Inv-loop μ-loop
 put-f32-requires c κs = search needs
 
--- src/lib.rt:223:9
 add-code : tie.Need-add-code Inv-loop μ-loop
 add-code c = search needs
 
--- src/lib.rt:221:5
 loop-less : tie.Need-loop-less Inv-loop μ-loop
 loop-less c = search needs
 
--- src/lib.rt:221:5
 loop-again : tie.Need-loop-again Inv-loop μ-loop
 loop-again c =
     let p = c .before .before in
@@ -56,11 +45,9 @@ loop-again c =
       rw (p .put-f32 .ensures, p .before .position .ensures, l .loop .inv .2) (table-put (positionOf (l .before .before .args .s)) _ (l .loop .code) (omega (arith, l .before .before .pre))),
     )
 
--- src/lib.rt:216:1
 same-length : tie.Need-same-length Inv-loop μ-loop
 same-length c = c .before .loop .inv .1
 
--- src/lib.rt:216:1
 returns : tie.Need-returns Inv-loop μ-loop
 unfolding positionBytesOf
 returns c =

@@ -1,30 +1,19 @@
-
 use borrow.Author.Needs.{needs}
 use Rattle.ladder.proofs.settle_nodes.Statement.{statement}
 use Rattle.ladder.proofs.settle_nodes.Tie as tie
-use Rattle.ladder.proofs.settle_nodes.Reads as reads
-use Rattle.ladder.proofs.settle_nodes.Lts as lts
-use Rattle.answers.proofs.is_done.Reads as is-done-reads
-use Rattle.ladder.proofs.all_finite.Reads as all-finite-reads
-use Rattle.ladder.proofs.judge.Reads as judge-reads
 
--- src/lib.rt:304:35
 all-finite-requires : tie.Need-all-finite-requires
 all-finite-requires c κs = search needs
 
--- src/lib.rt:304:9
 judge-requires : tie.Need-judge-requires
 judge-requires c κs = search needs
 
--- src/lib.rt:305:8
 is-done-requires : tie.Need-is-done-requires
 is-done-requires c κs = search needs
 
--- src/lib.rt:306:9
 returns : tie.Need-returns
 returns c = simp (← c .before .before .before .all-finite .ensures, ← c .before .before .judge .ensures, ← c .before .is-done .ensures, c .if1 .taken)
 
--- src/lib.rt:301:1
 returns-2 : tie.Need-returns-2
 returns-2 c = simp (← c .before .before .before .all-finite .ensures, ← c .before .before .judge .ensures, ← c .before .is-done .ensures, c .if1 .left)
 

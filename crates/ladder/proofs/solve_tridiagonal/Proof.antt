@@ -1,38 +1,26 @@
-use Rattle.ladder.specs.Calls.{solveTridiagonalOf}
 use borrow.Author.Needs.{needs}
+use Rattle.ladder.specs.Calls.{solveTridiagonalOf}
 use Rattle.ladder.proofs.solve_tridiagonal.Statement.{statement}
 use Rattle.ladder.proofs.solve_tridiagonal.Tie as tie
-use Rattle.ladder.proofs.solve_tridiagonal.Reads as reads
-use Rattle.ladder.proofs.solve_tridiagonal.Lts as lts
-use Rattle.ladder.proofs.all_finite.Reads as all-finite-reads
-use Rattle.ladder.proofs.settle_nodes.Reads as settle-nodes-reads
-use Rattle.ladder.proofs.solve.Reads as solve-reads
 
--- src/lib.rt:304:16
 all-finite-requires : tie.Need-all-finite-requires
 all-finite-requires c κs = search needs
 
--- src/lib.rt:304:36
 all-finite-requires-2 : tie.Need-all-finite-requires-2
 all-finite-requires-2 c κs = search needs
 
--- src/lib.rt:304:59
 all-finite-requires-3 : tie.Need-all-finite-requires-3
 all-finite-requires-3 c κs = search needs
 
--- src/lib.rt:304:79
 all-finite-requires-4 : tie.Need-all-finite-requires-4
 all-finite-requires-4 c κs = search needs
 
--- src/lib.rt:305:24
 solve-requires : tie.Need-solve-requires
 solve-requires c κs = search needs
 
--- src/lib.rt:305:5
 settle-nodes-requires : tie.Need-settle-nodes-requires
 settle-nodes-requires c κs = search needs
 
--- src/lib.rt:296:1
 returns : tie.Need-returns
 unfolding solveTridiagonalOf
 returns c =

@@ -1,16 +1,13 @@
-use Prim.Native.Nat.{ℕ, _≤_, _-_, _<_, _+_}
-use mathlib.Core.Path.{refl, _∙_, _≡_}
+use Prim.Native.Nat.{_≤_, _-_, _+_}
+use mathlib.Core.Path.{refl}
 use native.Mathlib.Omega.{arith}
 use lib.ListN.{replicate}
-use lib.Ieee.{Float}
+use borrow.Author.Needs.{needs}
 use Rattle.ladder.specs.Arithmetic.{f64}
 use Rattle.ladder.specs.Ladder.{resultFrom}
 use Rattle.ladder.proofs.Laws.{Filled, filled-none, filled-down, filled-all, result-row}
-use borrow.Author.Needs.{needs}
 use Rattle.ladder.proofs.substitute.Statement.{statement}
 use Rattle.ladder.proofs.substitute.Tie as tie
-use Rattle.ladder.proofs.substitute.Reads as reads
-use Rattle.ladder.proofs.substitute.Lts as lts
 
 abbrev Inv-loop : tie.InvT-loop
 Inv-loop s result₀ i₀ result i = (i ≤ 11) × Filled (λ k. resultFrom (s .c) (s .d) (11 - k) k) i 12 result
@@ -18,66 +15,51 @@ Inv-loop s result₀ i₀ result i = (i ≤ 11) × Filled (λ k. resultFrom (s .
 abbrev μ-loop : tie.MeasureT-loop
 μ-loop s result₀ i₀ result i = i
 
--- src/lib.rt:38:18
 element-copy-out-result : tie.Need-element-copy-out-result Inv-loop μ-loop
 element-copy-out-result c = search needs
 
--- src/lib.rt:38:5
 array-write-result : tie.Need-array-write-result Inv-loop μ-loop
 array-write-result c = search needs
 
--- src/lib.rt:40:5
 loop-holds : tie.Need-loop-holds Inv-loop μ-loop
 unfolding resultFrom
 loop-holds c =
     let s = c .before .args .t1 in
     (search needs, filled-down (λ k. resultFrom (s .c) (s .d) (11 - k) k) (replicate 12 (f64 0)) 11 _ (search needs) refl 12 (search needs) (filled-none _ 12 refl))
 
--- src/lib.rt:41:9
 sub-i : tie.Need-sub-i Inv-loop μ-loop
 sub-i c = search needs
 
--- src/lib.rt:42:21
 mul-result : tie.Need-mul-result Inv-loop μ-loop
 mul-result c = search needs
 
--- src/lib.rt:42:21
 element-copy-out-result-2 : tie.Need-element-copy-out-result-2 Inv-loop μ-loop
 element-copy-out-result-2 c = search needs
 
--- src/lib.rt:42:30
 mul-result-2 : tie.Need-mul-result-2 Inv-loop μ-loop
 mul-result-2 c = search needs
 
--- src/lib.rt:42:30
 element-copy-out-result-3 : tie.Need-element-copy-out-result-3 Inv-loop μ-loop
 element-copy-out-result-3 c = search needs
 
--- src/lib.rt:42:46
 add-result : tie.Need-add-result Inv-loop μ-loop
 add-result c = search needs
 
--- src/lib.rt:42:39
 mul-result-3 : tie.Need-mul-result-3 Inv-loop μ-loop
 mul-result-3 c = search needs
 
--- src/lib.rt:42:39
 array-read-result : tie.Need-array-read-result Inv-loop μ-loop
 array-read-result c = search needs
 
--- src/lib.rt:42:9
 mul-result-4 : tie.Need-mul-result-4 Inv-loop μ-loop
 mul-result-4 c = search needs
 
--- src/lib.rt:42:9
 array-write-result-2 : tie.Need-array-write-result-2 Inv-loop μ-loop
 array-write-result-2 c = search needs
 
--- src/lib.rt:40:5
 loop-less : tie.Need-loop-less Inv-loop μ-loop
 loop-less c = search needs
 
--- src/lib.rt:40:5
 loop-again : tie.Need-loop-again Inv-loop μ-loop
 loop-again c =
     let l = c .before .before .before in
@@ -86,7 +68,6 @@ loop-again c =
     let below = l .loop .inv .1 .entry (i + 1) (omega arith) (omega arith) in
     (search needs, filled-down (λ k. resultFrom (s .c) (s .d) (11 - k) k) (l .loop .result) i _ (omega arith) (result-row (s .c) (s .d) i (omega arith) below) 12 (omega arith) (l .loop .inv .1))
 
--- src/lib.rt:34:1
 returns : tie.Need-returns Inv-loop μ-loop
 returns c = filled-all _ (c .loop-test .left) (search needs) (c .before .loop .inv .1)
 

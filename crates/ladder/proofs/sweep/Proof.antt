@@ -2,16 +2,12 @@ use Prim.Native.Nat.{_+_, _-_, _≤_}
 use mathlib.Core.Path.{_≡_, refl, ap, _∙_}
 use native.Mathlib.Omega.{arith}
 use lib.ListN.{replicate}
+use borrow.Author.Needs.{needs}
 use Rattle.ladder.specs.Ladder.{rowAt}
 use Rattle.ladder.specs.declared.Row.{Row}
 use Rattle.ladder.proofs.Laws.{Filled, filled-none, filled-up, filled-all, row-next}
-use borrow.Author.Needs.{needs}
 use Rattle.ladder.proofs.sweep.Statement.{statement}
 use Rattle.ladder.proofs.sweep.Tie as tie
-use Rattle.ladder.proofs.sweep.Reads as reads
-use Rattle.ladder.proofs.sweep.Lts as lts
-use Rattle.ladder.proofs.first_row.Reads as first-row-reads
-use Rattle.ladder.proofs.next_row.Reads as next-row-reads
 
 abbrev Inv-loop : tie.InvT-loop
 Inv-loop lower diagonal upper rhs row₀ c₀ d₀ i₀ row c d i =
@@ -20,11 +16,9 @@ Inv-loop lower diagonal upper rhs row₀ c₀ d₀ i₀ row c d i =
 abbrev μ-loop : tie.MeasureT-loop
 μ-loop lower diagonal upper rhs row₀ c₀ d₀ i₀ row c d i = 12 - i
 
--- src/lib.rt:56:9
 first-row-requires : tie.Need-first-row-requires Inv-loop μ-loop
 first-row-requires c κs = search needs
 
--- src/lib.rt:60:5
 loop-holds : tie.Need-loop-holds Inv-loop μ-loop
 unfolding rowAt
 loop-holds c =
@@ -37,35 +31,27 @@ loop-holds c =
       filled-up _ (replicate 12 (row .d)) 0 _ (search needs) (ap (λ (r : Row). r .d) e) 0 (filled-none _ 0 refl),
     )
 
--- src/lib.rt:61:9
 next-row-requires : tie.Need-next-row-requires Inv-loop μ-loop
 next-row-requires c κs = search needs
 
--- src/lib.rt:62:9
 mul-c : tie.Need-mul-c Inv-loop μ-loop
 mul-c c = search needs
 
--- src/lib.rt:62:9
 array-write-c : tie.Need-array-write-c Inv-loop μ-loop
 array-write-c c = search needs
 
--- src/lib.rt:63:9
 mul-d : tie.Need-mul-d Inv-loop μ-loop
 mul-d c = search needs
 
--- src/lib.rt:63:9
 array-write-d : tie.Need-array-write-d Inv-loop μ-loop
 array-write-d c = search needs
 
--- src/lib.rt:64:9
 add-i : tie.Need-add-i Inv-loop μ-loop
 add-i c = search needs
 
--- src/lib.rt:60:5
 loop-less : tie.Need-loop-less Inv-loop μ-loop
 loop-less c = search needs
 
--- src/lib.rt:60:5
 loop-again : tie.Need-loop-again Inv-loop μ-loop
 loop-again c =
     let l = c .before .before in
@@ -73,7 +59,7 @@ loop-again c =
     let i = l .loop .i in
     let at-row = rowAt (a .lower .now) (a .diagonal .now) (a .upper .now) (a .rhs .now) in
     let row : c .next-row .result ≡ at-row i =
-        c .next-row .ensures ∙ rw (l .loop .inv .2) (row-next (a .lower .now) (a .diagonal .now) (a .upper .now) (a .rhs .now) i (l .loop .inv .0)) in
+    rw (c .next-row .ensures, l .loop .inv .2) (row-next (a .lower .now) (a .diagonal .now) (a .upper .now) (a .rhs .now) i (l .loop .inv .0)) in
     let same : i ≡ i + 1 - 1 = omega arith in (
       search needs,
       search needs,
@@ -82,7 +68,6 @@ loop-again c =
       filled-up _ (l .loop .d) i _ (omega arith) (ap (λ (r : Row). r .d) row) 0 (l .loop .inv .4),
     )
 
--- src/lib.rt:53:1
 returns : tie.Need-returns Inv-loop μ-loop
 returns c =
     let l = c .before in

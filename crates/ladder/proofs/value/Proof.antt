@@ -1,17 +1,15 @@
-use mathlib.Core.Logic.{⊎-elim}
-use borrow.Author.Tests.{eq-eqb, ne-eqb}
 use Prim.Native.Nat.{_≤_, _-_, _/_, _^_}
+use mathlib.Core.Logic.{⊎-elim}
 use mathlib.Core.Path.{_≡_, refl, sym}
-use native.Mathlib.Omega.{arith}
 use native.Mathlib.Nat.{div-one}
+use native.Mathlib.Omega.{arith}
+use borrow.Author.Needs.{needs}
+use borrow.Author.Tests.{eq-eqb, ne-eqb}
 use Rattle.ladder.specs.Arithmetic.{_⊗_}
 use Rattle.ladder.specs.Ladder.{at, levelAt, sumOf, valueOf}
 use Rattle.ladder.proofs.Laws.{sum-more, halved}
-use borrow.Author.Needs.{needs}
 use Rattle.ladder.proofs.value.Statement.{statement}
 use Rattle.ladder.proofs.value.Tie as tie
-use Rattle.ladder.proofs.value.Reads as reads
-use Rattle.ladder.proofs.value.Lts as lts
 
 abbrev Inv-loop : tie.InvT-loop
 Inv-loop code weights leakage sum₀ rest₀ bit₀ sum rest bit = (bit ≤ 12) × (rest ≡ code / 2 ^ bit) × (sum ≡ sumOf (λ b. levelAt code leakage b ⊗ at weights b) bit)
@@ -19,28 +17,22 @@ Inv-loop code weights leakage sum₀ rest₀ bit₀ sum rest bit = (bit ≤ 12) 
 abbrev μ-loop : tie.MeasureT-loop
 μ-loop code weights leakage sum₀ rest₀ bit₀ sum rest bit = 12 - bit
 
--- src/lib.rt:159:5
 loop-holds : tie.Need-loop-holds Inv-loop μ-loop
 unfolding sumOf
 loop-holds c = (search needs, sym (div-one (c .args .code)), refl)
 
--- src/lib.rt:161:29
 mul-sum : tie.Need-mul-sum Inv-loop μ-loop
 mul-sum c = search needs
 
--- src/lib.rt:161:29
 element-copy-out-sum : tie.Need-element-copy-out-sum Inv-loop μ-loop
 element-copy-out-sum c = search needs
 
--- src/lib.rt:163:9
 add-bit : tie.Need-add-bit Inv-loop μ-loop
 add-bit c = search needs
 
--- src/lib.rt:159:5
 loop-less : tie.Need-loop-less Inv-loop μ-loop
 loop-less c = search needs
 
--- src/lib.rt:159:5
 loop-again : tie.Need-loop-again Inv-loop μ-loop
 loop-again c =
     let l = c .before .before .before in
@@ -53,7 +45,6 @@ loop-again c =
     (c .before .if1 .came) in
     (search needs, rw (l .loop .inv .1) (halved (a .code) bit), rw (l .loop .inv .2, level) (sum-more _ bit))
 
--- src/lib.rt:153:1
 returns : tie.Need-returns Inv-loop μ-loop
 unfolding valueOf
 returns c = let e : c .before .loop .bit ≡ 12 = omega arith in rw e at (c .before .loop .inv .2)
