@@ -3,12 +3,14 @@
 ghost use mathlib.Core.Path.{_≡_};
 ghost use Rattle.integrator.specs.Integrator.{saturateOf, advanceOf, substepOf, fourSubstepsOf};
 
+#[repr(C)]
 pub struct FilterOutputs {
     pub high_pass: f32,
     pub band_pass: f32,
     pub low_pass: f32,
 }
 
+#[repr(C)]
 pub struct IntegratorState {
     pub band_state: f32,
     pub low_state: f32,
@@ -17,6 +19,7 @@ pub struct IntegratorState {
 
 // What stays the same over the substeps of one sample: the resonance's damping, the feedback's drive and the trapezoidal
 // rule's three factors.
+#[repr(C)]
 pub struct Coefficients {
     pub damping: f32,
     pub feedback_drive: f32,
@@ -26,6 +29,7 @@ pub struct Coefficients {
 }
 
 // A substep's outputs and the state after it.
+#[repr(C)]
 pub struct Advanced {
     pub outputs: FilterOutputs,
     pub state: IntegratorState,

@@ -6,6 +6,7 @@ ghost use Rattle.mixing.specs.Topology.{one as oneOf, reciprocalOf, topo
 ghost use Rattle.mixing.specs.Line.{digit as digitOf, flag as flagOf, lineOf};
 
 // Flags for voices 1 to 3 and the external input; what is worked out from them, so that a sample need not.
+#[repr(C)]
 pub struct MixingTopology {
     pub filter_membership: [bool; 4],
     pub bypass_membership: [bool; 4],

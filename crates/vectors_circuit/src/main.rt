@@ -1,7 +1,8 @@
-// Replays the oracle's answers (oracle/README.md) through integrator, response and mixing, and prints a line for each file: its name, how many of
+// Replays the oracle's answers (oracle/README.md) through integrator, response, mixing and control, and prints a line for each file: its name, how many of
 // its records agree, and how many it has.
 mod circuit;
 mod levels;
+mod registers;
 
 ghost use Prim.Native.Nat.{_<_};
 ghost use Rattle.io.specs.Counts.{Counts};
@@ -17,6 +18,7 @@ enum Kind {
     CommonMode,
     ModeGain,
     Topology,
+    Writes,
 }
 
 fn agrees(kind: Kind, r: &[u8]) -> bool {
@@ -29,6 +31,7 @@ fn agrees(kind: Kind, r: &[u8]) -> bool {
         Kind::CommonMode => levels::common_mode(r),
         Kind::ModeGain => levels::mode_gain(r),
         Kind::Topology => levels::topology(r),
+        Kind::Writes => registers::write(r),
     }
 }
 
@@ -42,6 +45,7 @@ fn main() {
     replay(Kind::CommonMode, b"common_mode.bin", 3);
     replay(Kind::ModeGain, b"mode_gain.bin", 5);
     replay(Kind::Topology, b"topology.bin", 19);
+    replay(Kind::Writes, b"writes.bin", 11);
 }
 
 // More than any file of records has.

@@ -1,0 +1,180 @@
+// The bundle of tables that the Rust makes: its fixed header, the places of its entries, reading one, and opening.
+ghost use mathlib.Core.Path.{_≡_};
+ghost use Prim.Native.Nat.{_+_, _*_, _≤_, _<_};
+ghost use lib.ListN.{getD};
+ghost use Rattle.bundle.specs.Layout.{integratorGainPlace, dampingPlace, sourceGainModulationPlace, surfacePlace, highpassLoadingPlace, displacementIndexOf, directionalPowerPlace, analogueSurface, header};
+ghost use Rattle.bundle.specs.Opening.{entryAt, firstDifference, checkOf, judgePlacesOf, judgeSectionOf, openOf};
+use answers::Answer;
+use answers::Buffer;
+
+// The header's words: the total length and the section count, then the byte offset and the entry count of each section.
+const HEADER: [u32; 14] = [
+    6127736,
+    6,
+    56,
+    524288,
+    2097208,
+    16,
+    2097272,
+    2048,
+    2105464,
+    296960,
+    3293304,
+    2048,
+    3301496,
+    706560,
+];
+
+// ---- the byte at which an entry stands
+
+// The integrator's gain at an effective cutoff, a resonance and an operating bin.
+pub fn integrator_gain_place(code: u16, resonance: u8, bin: u8) -> u32
+    ensures { λ r. ⌜ r ≡ integratorGainPlace code resonance bin ⌝ }
+{
+    56 + 4 * (((code as u32) * 16 + (resonance as u32)) * 16 + (bin as u32))
+}
+
+// The damping at a resonance.
+pub fn damping_place(resonance: u8) -> u32
+    ensures { λ r. ⌜ r ≡ dampingPlace resonance ⌝ }
+{
+    2097208 + 4 * (resonance as u32)
+}
+
+// How far the source energy moves the gain, at an effective cutoff.
+pub fn source_gain_modulation_place(code: u16) -> u32
+    ensures { λ r. ⌜ r ≡ sourceGainModulationPlace code ⌝ }
+{
+    2097272 + 4 * (code as u32)
+}
+
+// The loaded amplifier's output at a load and an input.
+pub fn surface_place(load: u8, input: u16) -> u32
+    ensures { λ r. ⌜ r ≡ surfacePlace load input ⌝ }
+{
+    2105464 + 4 * ((load as u32) * 2048 + (input as u32))
+}
+
+// The highpass output's loading at an effective cutoff.
+pub fn highpass_loading_place(cutoff: u16) -> u32
+    ensures { λ r. ⌜ r ≡ highpassLoadingPlace cutoff ⌝ }
+{
+    3293304 + 4 * (cutoff as u32)
+}
+
+// From the 16 bits of the displacement: -57 has 0xffc7.
+fn displacement_index(displacement: i16) -> u32
+    ensures { λ r. ⌜ r ≡ displacementIndexOf displacement ⌝ }
+{
+    let bits = wire::bits16(displacement) as u32;
+    if bits < 0x8000 {
+        return bits + 57;
+    }
+    if bits < 0xffc7 {
+        return 0;
+    }
+    bits - 0xffc7
+}
+
+// The directional gain to the power of a displacement, for a mode (0 low, 1 band, 2 high) at a written cutoff.
+pub fn directional_power_place(mode: u8, cutoff: u16, displacement: i16) -> u32
+    ensures { λ r. ⌜ r ≡ directionalPowerPlace mode cutoff displacement ⌝ }
+{
+    3301496
+        + 4 * (((mode as u32) * 2048 + (cutoff as u32)) * 115 + displacement_index(displacement))
+}
+
+// ---- entries
+
+// The entry at a place. An unusable one reads as the float that it is.
+pub fn entry_at(bundle: &[u8], place: u32) -> f32
+    ensures { λ r. ⌜ r ≡ entryAt (now (bundle .entry)) place ⌝ }
+{
+    wire::f32_at(bundle, place as usize)
+}
+
+// Refuses at the first unusable one among the entries at some places, in the order of the places.
+pub fn judge_places(buffer: Buffer, bytes: &[u8], places: &[u32]) -> Answer
+    ensures { λ r. ⌜ r ≡ judgePlacesOf buffer (now (bytes .entry)) (now (places .entry)) ⌝ }
+{
+    let mut i = 0;
+    while i < places.len() {
+        let place = places[i];
+        if wire::usable_at(bytes, place as usize) {
+            i += 1;
+        } else {
+            return Answer::Entry { buffer, place };
+        }
+    }
+    Answer::Done
+}
+
+// Refuses at the first unusable one of a run of entries.
+fn judge_section(bundle: &[u8], offset: usize, count: usize) -> Answer
+    requires { ⌜ offset + 4 * count ≤ 6127736 ⌝ }
+    ensures { λ r. ⌜ r ≡ judgeSectionOf (now (bundle .entry)) (record { offset = offset; count = count }) ⌝ }
+{
+    let index = wire::first_unusable(bundle, offset, count);
+    if index < count {
+        let place = (offset + 4 * index) as u32;
+        return Answer::Entry {
+            buffer: Buffer::Bundle,
+            place,
+        };
+    }
+    Answer::Done
+}
+
+// Refuses at the first unusable entry of the analogue surface.
+pub fn judge_surface(bundle: &[u8]) -> Answer
+    ensures { λ r. ⌜ r ≡ judgeSectionOf (now (bundle .entry)) analogueSurface ⌝ }
+{
+    judge_section(bundle, 2105464, 296960)
+}
+
+// ---- opening
+
+fn header_byte(i: u32) -> u8
+    requires { ⌜ i < 56 ⌝ }
+    ensures { λ r. ⌜ r ≡ getD header i 0 ⌝ }
+{
+    ((HEADER[(i / 4) as usize] >> (8 * (i % 4))) % 256) as u8
+}
+
+fn first_difference(bundle: &[u8]) -> u32
+    ensures { λ r. ⌜ r ≡ firstDifference (now (bundle .entry)) ⌝ }
+{
+    let mut i = 0;
+    while i < 56 {
+        if wire::byte_at(bundle, i as usize) != header_byte(i) {
+            return i;
+        }
+        i += 1;
+    }
+    i
+}
+
+// The length, then the header: what every call that takes a bundle looks at.
+pub fn check(bundle: &[u8]) -> Answer
+    ensures { λ r. ⌜ r ≡ checkOf (now (bundle .entry)) ⌝ }
+{
+    if bundle.len() != 6127736 {
+        return Answer::BundleLength;
+    }
+    let place = first_difference(bundle);
+    if place < 56 {
+        return Answer::Header { place };
+    }
+    Answer::Done
+}
+
+// The length, the header, then every entry in order.
+pub fn open(bundle: &[u8]) -> Answer
+    ensures { λ r. ⌜ r ≡ openOf (now (bundle .entry)) ⌝ }
+{
+    let checked = check(bundle);
+    if answers::is_done(checked) {
+        return judge_section(bundle, 56, 1531920);
+    }
+    checked
+}

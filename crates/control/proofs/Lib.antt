@@ -1,0 +1,5 @@
+pub mod Laws
+pub mod Block
+pub mod Valid
+pub mod RoundTrip
+pub mod Cases

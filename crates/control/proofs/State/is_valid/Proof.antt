@@ -1,0 +1,17 @@
+use Rattle.control.specs.Block.{validOf}
+use borrow.Author.Needs.{needs}
+use Rattle.control.proofs.State.is_valid.Statement.{statement}
+use Rattle.control.proofs.State.is_valid.Tie as tie
+
+is-valid-requires : tie.Need-is-valid-requires
+is-valid-requires c κs = search needs
+
+finite-floats-requires : tie.Need-finite-floats-requires
+finite-floats-requires c κs = search needs
+
+returns : tie.Need-returns
+unfolding validOf
+returns c = rw (c .before .is-valid .ensures, c .finite-floats .ensures)
+
+pub is-valid-spec : {M : Type 1} → statement M
+is-valid-spec = tie.close (tie.spec is-valid-requires finite-floats-requires returns)

@@ -1,0 +1,12 @@
+use borrow.Author.Needs.{needs}
+use Rattle.control.proofs.State.new.Statement.{statement}
+use Rattle.control.proofs.State.new.Tie as tie
+
+new-requires : tie.Need-new-requires
+new-requires c κs = search needs
+
+returns : tie.Need-returns
+returns c = rw (c .new .ensures)
+
+pub new-spec : {M : Type 1} → statement M
+new-spec = tie.close (tie.spec new-requires returns)

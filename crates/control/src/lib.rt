@@ -1,0 +1,300 @@
+// The filter's registers, its state and the state's 24-byte block.
+ghost use mathlib.Core.Path.{_≡_};
+ghost use Rattle.control.specs.Registers.{startingRegisters, startingState, stepOf, displacementOf, displacedOf, previousCutoffOf, effectiveCutoffOf, writeCutoffLowOf, writeCutoffHighOf, writeSignalRoutingOf, writeModeAndVolumeOf};
+ghost use Rattle.control.specs.Block.{validRegisters, finiteF32, finiteFloats, validOf, blockOf, fieldsOf, decodeOf, encodeOf};
+use constants::FILTER_CUTOFF_STEP_CHARGE_GAIN;
+use constants::FILTER_CUTOFF_STEP_CHARGE_LIMIT_CODES;
+use integrator::IntegratorState;
+
+// The registers as written, and the displacement that the last step of the cutoff left on its DAC, with where the next step starts.
+pub struct FilterRegisters {
+    pub cutoff: u16,
+    pub cutoff_dac_displacement_codes: i16,
+    pub cutoff_write_base: u16,
+    pub cutoff_low_pending: bool,
+    pub resonance: u8,
+    pub routing: u8,
+    pub mode: u8,
+    pub volume: u8,
+}
+
+// What the register writes and the samples change: all else is worked out from it.
+pub struct State {
+    pub registers: FilterRegisters,
+    pub integrator: IntegratorState,
+}
+
+// What a block stands for.
+pub enum Decoded {
+    Valid(State),
+    Invalid,
+}
+
+// The DAC's displacement after a step of the cutoff code: a signed count of codes.
+fn displacement(step: i32) -> i16
+    ensures { λ r. ⌜ r ≡ displacementOf step ⌝ }
+{
+    let limit = floats::of_i16(FILTER_CUTOFF_STEP_CHARGE_LIMIT_CODES);
+    let charge = floats::round(floats::of_i32(step) * FILTER_CUTOFF_STEP_CHARGE_GAIN);
+    floats::as_i16(floats::clamp(charge, -limit, limit))
+}
+
+// The step from one cutoff code to another.
+fn step_between(previous: u16, next: u16) -> i32
+    ensures { λ r. ⌜ r ≡ stepOf previous next ⌝ }
+{
+    (next as i32) - (previous as i32)
+}
+
+// A cutoff code with a displacement on it, within the DAC's codes. The sum is an i32, so that it is right for every code.
+fn displaced(cutoff: u16, displacement: i16) -> u16
+    ensures { λ r. ⌜ r ≡ displacedOf cutoff displacement ⌝ }
+{
+    let displaced = (cutoff as i32) + (displacement as i32);
+    if displaced < 0 {
+        return 0;
+    }
+    if 2047 < displaced {
+        return 2047;
+    }
+    displaced as u16
+}
+
+// A finite f32, as every float of a state is.
+fn finite_f32(x: f32) -> bool
+    ensures { λ r. ⌜ r ≡ finiteF32 x ⌝ }
+{
+    floats::is_finite(x)
+}
+
+fn finite_floats(i: IntegratorState) -> bool
+    ensures { λ r. ⌜ r ≡ finiteFloats i ⌝ }
+{
+    finite_f32(i.band_state) & finite_f32(i.low_state) & finite_f32(i.filter_source_energy)
+}
+
+impl FilterRegisters {
+    // The largest cutoff, a code of 11 bits; the largest value of a field of 4 bits; and the displacement's two ends.
+    pub const CUTOFF_MAX: u16 = 2047;
+
+    pub const NIBBLE_MAX: u8 = 15;
+
+    pub const DISPLACEMENT_MIN: i16 = -FILTER_CUTOFF_STEP_CHARGE_LIMIT_CODES;
+
+    pub const DISPLACEMENT_MAX: i16 = FILTER_CUTOFF_STEP_CHARGE_LIMIT_CODES;
+
+    fn new() -> Self
+        ensures { λ r. ⌜ r ≡ startingRegisters ⌝ }
+    {
+        Self {
+            cutoff: 0,
+            cutoff_dac_displacement_codes: 0,
+            cutoff_write_base: 0,
+            cutoff_low_pending: false,
+            resonance: 0,
+            routing: 0,
+            mode: 0,
+            volume: 0,
+        }
+    }
+
+    fn is_valid(self) -> bool
+        ensures { λ r. ⌜ r ≡ validRegisters self ⌝ }
+    {
+        ((self.cutoff <= FilterRegisters::CUTOFF_MAX)
+            & (self.cutoff_write_base <= FilterRegisters::CUTOFF_MAX)
+            & (FilterRegisters::DISPLACEMENT_MIN <= self.cutoff_dac_displacement_codes)
+            & (self.cutoff_dac_displacement_codes <= FilterRegisters::DISPLACEMENT_MAX))
+            & ((self.resonance <= FilterRegisters::NIBBLE_MAX)
+                & (self.routing <= FilterRegisters::NIBBLE_MAX)
+                & (self.mode <= FilterRegisters::NIBBLE_MAX)
+                & (self.volume <= FilterRegisters::NIBBLE_MAX))
+    }
+
+    // The code from which a write of FC HI steps: the one before a pending write of FC LO, if there is one.
+    fn previous_cutoff(self) -> u16
+        ensures { λ r. ⌜ r ≡ previousCutoffOf self ⌝ }
+    {
+        if self.cutoff_low_pending {
+            self.cutoff_write_base
+        } else {
+            self.cutoff
+        }
+    }
+}
+
+impl State {
+    // The length of a state's block.
+    pub const BYTES: usize = 24;
+
+    pub fn new() -> Self
+        ensures { λ r. ⌜ r ≡ startingState ⌝ }
+    {
+        let registers = FilterRegisters::new();
+        Self {
+            registers,
+            integrator: IntegratorState {
+                band_state: 0.0,
+                low_state: 0.0,
+                filter_source_energy: 0.0,
+            },
+        }
+    }
+
+    // FC LO gives the cutoff's three lowest bits; the others stay.
+    pub fn write_cutoff_low(mut self, value: u8) -> Self
+        ensures { λ r. ⌜ r ≡ writeCutoffLowOf self value ⌝ }
+    {
+        let mut registers = self.registers;
+        registers.cutoff_write_base = registers.cutoff;
+        registers.cutoff_low_pending = true;
+        registers.cutoff = registers.cutoff / 8 % 256 * 8 + (value % 8) as u16;
+        self.registers = registers;
+        self
+    }
+
+    // FC HI gives the cutoff's upper eight bits; the others stay. The step displaces the cutoff DAC.
+    pub fn write_cutoff_high(mut self, value: u8) -> Self
+        ensures { λ r. ⌜ r ≡ writeCutoffHighOf self value ⌝ }
+    {
+        let mut registers = self.registers;
+        let previous = registers.previous_cutoff();
+        let next = (value as u16) * 8 + registers.cutoff % 8;
+        registers.cutoff_dac_displacement_codes = displacement(step_between(previous, next));
+        registers.cutoff = next;
+        registers.cutoff_low_pending = false;
+        self.registers = registers;
+        self
+    }
+
+    // RES/FILT gives the resonance and the routing.
+    pub fn write_signal_routing(mut self, value: u8) -> Self
+        ensures { λ r. ⌜ r ≡ writeSignalRoutingOf self value ⌝ }
+    {
+        let mut registers = self.registers;
+        registers.routing = value % 16;
+        registers.resonance = value / 16;
+        self.registers = registers;
+        self
+    }
+
+    // MODE/VOL gives the mode and the volume.
+    pub fn write_mode_and_volume(mut self, value: u8) -> Self
+        ensures { λ r. ⌜ r ≡ writeModeAndVolumeOf self value ⌝ }
+    {
+        let mut registers = self.registers;
+        registers.volume = value % 16;
+        registers.mode = value / 16;
+        self.registers = registers;
+        self
+    }
+
+    pub fn reset(self) -> Self
+        ensures { λ r. ⌜ r ≡ startingState ⌝ }
+    {
+        State::new()
+    }
+
+    pub fn effective_cutoff(self) -> u16
+        ensures { λ r. ⌜ r ≡ effectiveCutoffOf self ⌝ }
+    {
+        let registers = self.registers;
+        displaced(registers.cutoff, registers.cutoff_dac_displacement_codes)
+    }
+
+    pub fn is_valid(self) -> bool
+        ensures { λ r. ⌜ r ≡ validOf self ⌝ }
+    {
+        let registers = self.registers;
+        let integrator = self.integrator;
+        registers.is_valid() & finite_floats(integrator)
+    }
+
+    // The state's 24 bytes.
+    fn block(self) -> [u8; 24]
+        ensures { λ r. ⌜ r ≡ blockOf self ⌝ }
+    {
+        let registers = self.registers;
+        let integrator = self.integrator;
+        let cutoff = registers.cutoff;
+        let displacement = wire::bits16(registers.cutoff_dac_displacement_codes);
+        let base = registers.cutoff_write_base;
+        let band = wire::float_bits(integrator.band_state);
+        let low = wire::float_bits(integrator.low_state);
+        let energy = wire::float_bits(integrator.filter_source_energy);
+        [
+            (cutoff % 256) as u8,
+            (cutoff / 256 % 256) as u8,
+            (displacement % 256) as u8,
+            (displacement / 256 % 256) as u8,
+            (base % 256) as u8,
+            (base / 256 % 256) as u8,
+            registers.cutoff_low_pending as u8,
+            registers.resonance,
+            registers.routing,
+            registers.mode,
+            registers.volume,
+            0,
+            (band % 256) as u8,
+            (band / 256 % 256) as u8,
+            (band / 256 / 256 % 256) as u8,
+            (band / 256 / 256 / 256 % 256) as u8,
+            (low % 256) as u8,
+            (low / 256 % 256) as u8,
+            (low / 256 / 256 % 256) as u8,
+            (low / 256 / 256 / 256 % 256) as u8,
+            (energy % 256) as u8,
+            (energy / 256 % 256) as u8,
+            (energy / 256 / 256 % 256) as u8,
+            (energy / 256 / 256 / 256 % 256) as u8,
+        ]
+    }
+
+    // Writes the state's block where 24 bytes are lent.
+    pub fn encode(self, dst: &mut [u8])
+        ensures { λ _. ⌜ now (dst .exit) ≡ encodeOf self (now (dst .entry)) ⌝ }
+    {
+        if dst.len() == State::BYTES {
+            let block = self.block();
+            wire::put(dst, 0, &block);
+        }
+    }
+
+    // The state that a block's fields stand for, valid or not.
+    fn fields(block: &[u8]) -> Self
+        ensures { λ r. ⌜ r ≡ fieldsOf (now (block .entry)) ⌝ }
+    {
+        Self {
+            registers: FilterRegisters {
+                cutoff: wire::u16_at(block, 0),
+                cutoff_dac_displacement_codes: wire::i16_at(block, 2),
+                cutoff_write_base: wire::u16_at(block, 4),
+                cutoff_low_pending: wire::byte_at(block, 6) == 1,
+                resonance: wire::byte_at(block, 7),
+                routing: wire::byte_at(block, 8),
+                mode: wire::byte_at(block, 9),
+                volume: wire::byte_at(block, 10),
+            },
+            integrator: IntegratorState {
+                band_state: wire::f32_at(block, 12),
+                low_state: wire::f32_at(block, 16),
+                filter_source_energy: wire::f32_at(block, 20),
+            },
+        }
+    }
+
+    // The state of a valid block.
+    pub fn decode(block: &[u8]) -> Decoded
+        ensures { λ r. ⌜ r ≡ decodeOf (now (block .entry)) ⌝ }
+    {
+        let state = State::fields(block);
+        if (block.len() == State::BYTES)
+            & (wire::byte_at(block, 6) <= 1)
+            & (wire::byte_at(block, 11) == 0)
+            & state.is_valid()
+        {
+            return Decoded::Valid(state);
+        }
+        Decoded::Invalid
+    }
+}

@@ -1,0 +1,24 @@
+//! Sets the proved code beside the Rust on the same inputs, and prints for each subject how many values were compared and how many differ.
+//! The proved code is linked as static libraries (oracle/compare builds them).
+
+#![allow(dead_code)]
+
+include!("sid.rs");
+
+mod circuit;
+mod numbers;
+mod state;
+
+fn main() {
+    let mut subjects = circuit::compare();
+    subjects.extend(state::compare());
+    let mut differences = 0;
+    for (name, tally) in &subjects {
+        println!("{name}: {} compared, {} differences", tally.compared, tally.differences);
+        differences += tally.differences;
+    }
+    println!("{differences} differences");
+    if differences > 0 {
+        std::process::exit(1);
+    }
+}

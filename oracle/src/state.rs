@@ -1,0 +1,193 @@
+//! The register writes beside the Rust's, and blocks and scripts beside an independent check.
+
+use crate::control::FilterRegisters;
+use crate::filter::Filter;
+use crate::numbers::{Random, Tally};
+
+mod proved {
+    #[repr(C)]
+    #[derive(PartialEq)]
+    pub struct Script {
+        pub refused: bool,
+        pub events: usize,
+        pub samples: usize,
+    }
+
+    #[link(name = "probe", kind = "static")]
+    unsafe extern "C" {
+        pub fn probe_effective_cutoff(block: *const u8, len: usize) -> u16;
+        pub fn probe_write(block: *mut u8, len: usize, register: u8, value: u8);
+        pub fn probe_script(script: *const u8, len: usize) -> Script;
+    }
+}
+
+pub fn compare() -> Vec<(&'static str, Tally)> {
+    let mut filter = Filter::new();
+    vec![
+        ("cutoff writes, every base, code and value", cutoff(&mut filter)),
+        ("routing and mode writes, reset", nibbles(&mut filter)),
+        ("state blocks", blocks()),
+        ("scripts", scripts()),
+    ]
+}
+
+/// Document 01's block of a state, the floats given by their bits.
+fn block(registers: &FilterRegisters, floats: [u32; 3]) -> [u8; 24] {
+    let mut bytes = [0; 24];
+    bytes[0..2].copy_from_slice(&registers.cutoff.to_le_bytes());
+    bytes[2..4].copy_from_slice(&registers.cutoff_dac_displacement_codes.to_le_bytes());
+    bytes[4..6].copy_from_slice(&registers.cutoff_write_base.to_le_bytes());
+    bytes[6] = u8::from(registers.cutoff_low_pending);
+    bytes[7..11].copy_from_slice(&[registers.resonance, registers.routing, registers.mode, registers.volume]);
+    for (bytes, bits) in bytes[12..].chunks_exact_mut(4).zip(floats) {
+        bytes.copy_from_slice(&bits.to_le_bytes());
+    }
+    bytes
+}
+
+fn effective_cutoff(block: &[u8]) -> u16 {
+    unsafe { proved::probe_effective_cutoff(block.as_ptr(), block.len()) }
+}
+
+fn write(block: &mut [u8], register: u8, value: u8) {
+    unsafe { proved::probe_write(block.as_mut_ptr(), block.len(), register, value) }
+}
+
+/// One write on both sides; registers 0 to 3, else a reset. The floats stay, but for the reset.
+fn both(tally: &mut Tally, filter: &mut Filter, register: u8, value: u8, floats: [u32; 3]) {
+    let mut ours = block(filter.registers(), floats);
+    write(&mut ours, register, value);
+    match register {
+        0 => filter.write_cutoff_low(value),
+        1 => filter.write_cutoff_high(value),
+        2 => filter.write_signal_routing(value),
+        3 => filter.write_mode_and_volume(value),
+        _ => filter.reset(),
+    }
+    tally.same(ours, block(filter.registers(), if register < 4 { floats } else { [0; 3] }));
+    // A mode write leaves the cached index, which the cutoff writes set, as it is.
+    tally.same(usize::from(effective_cutoff(&ours)), filter.control().effective_cutoff_index);
+}
+
+/// A high write from every code, and from every code with each low write pending on it.
+fn cutoff(filter: &mut Filter) -> Tally {
+    let mut tally = Tally::default();
+    for base in 0..2048 {
+        for low in 0..=8 {
+            for value in 0..=255 {
+                let registers = filter.registers();
+                registers.cutoff = base;
+                registers.cutoff_low_pending = false;
+                registers.cutoff_dac_displacement_codes = i16::from(value) % 115 - 57;
+                if low < 8 && value == 0 {
+                    both(&mut tally, filter, 0, low | 0xa8, [0x3f80_0000, 0x8000_0000, 1]);
+                } else if low < 8 {
+                    filter.write_cutoff_low(low);
+                }
+                both(&mut tally, filter, 1, value, [0x3f80_0000, 0x8000_0000, 1]);
+            }
+        }
+    }
+    tally
+}
+
+/// Every value of the two registers after one another, and resets between.
+fn nibbles(filter: &mut Filter) -> Tally {
+    let mut tally = Tally::default();
+    for pair in 0..=u16::MAX {
+        both(&mut tally, filter, 2, pair as u8, [pair.into(), 0, 0]);
+        both(&mut tally, filter, 3, (pair >> 8) as u8, [0, pair.into(), 0]);
+        if pair % 256 == 0 {
+            both(&mut tally, filter, 4, 0, [1, 2, 3]);
+        }
+    }
+    tally
+}
+
+fn is_valid(block: &[u8]) -> bool {
+    let word = |at: usize| u16::from_le_bytes([block[at], block[at + 1]]);
+    block.len() == 24
+        && word(0) <= 2047
+        && (-57..=57).contains(&(word(2) as i16))
+        && word(4) <= 2047
+        && block[6] <= 1
+        && block[7..11].iter().all(|&nibble| nibble <= 15)
+        && block[11] == 0
+        && block[12..].chunks_exact(4).all(|bits| f32::from_le_bytes(bits.try_into().unwrap()).is_finite())
+}
+
+/// Blocks of every length about 24 with a field or two out of its range, and valid ones: an invalid block has no cutoff and stays as it is.
+fn blocks() -> Tally {
+    let (mut tally, mut random) = (Tally::default(), Random(5));
+    for _ in 0..2_000_000 {
+        let bits = random.bits();
+        let registers = FilterRegisters {
+            cutoff: bits as u16 % 2048,
+            cutoff_dac_displacement_codes: (bits >> 16) as i16 % 58,
+            cutoff_write_base: (bits >> 32) as u16 % 2048,
+            cutoff_low_pending: bits >> 63 == 1,
+            resonance: (bits >> 48) as u8 % 16,
+            routing: (bits >> 52) as u8 % 16,
+            mode: (bits >> 56) as u8 % 16,
+            volume: (bits >> 44) as u8 % 16,
+        };
+        let mut ours = block(&registers, [random.float().to_bits(), random.float().to_bits(), random.float().to_bits()]).to_vec();
+        let damage = random.bits();
+        if damage % 4 == 0 {
+            ours[(damage >> 8) as usize % 24] ^= 1 << ((damage >> 16) % 8);
+        }
+        if damage % 64 == 1 {
+            ours.resize((damage >> 8) as usize % 30, 0);
+        }
+        let valid = is_valid(&ours);
+        tally.same(effective_cutoff(&ours) != 65535, valid);
+        let before = ours.clone();
+        write(&mut ours, 9, 0);
+        tally.same(ours, if valid { vec![0; 24] } else { before });
+    }
+    tally
+}
+
+fn check(script: &[u8]) -> proved::Script {
+    let refused = proved::Script { refused: true, events: 0, samples: 0 };
+    if script.len() < 8 || script[4..8] != [8, 0, 0, 0] {
+        return refused;
+    }
+    let events = u32::from_le_bytes(script[..4].try_into().unwrap()) as usize;
+    let slices = script[8..].chunks(12);
+    if events > 65_536 || script.len() != 8 + 12 * events || slices.clone().any(|event| event[0] > 5 || event[2..4] != [0, 0]) {
+        return refused;
+    }
+    proved::Script { refused: false, events, samples: slices.filter(|event| event[0] == 4).count() }
+}
+
+/// Scripts of every small length and some of the largest, half of them damaged in one byte.
+fn scripts() -> Tally {
+    let (mut tally, mut random) = (Tally::default(), Random(6));
+    for turn in 0..200_000u32 {
+        let events = match turn % 50_000 {
+            0 => 65_536,
+            1 => 65_537,
+            2 => 65_535,
+            _ => turn as usize % 40,
+        };
+        let mut script = vec![];
+        script.extend((events as u32).to_le_bytes());
+        script.extend(8u32.to_le_bytes());
+        for _ in 0..events {
+            let bits = random.bits();
+            script.extend([(bits % 6) as u8, (bits >> 8) as u8, 0, 0]);
+            script.extend(random.bits().to_le_bytes());
+        }
+        let damage = random.bits();
+        let at = (damage >> 16) as usize % script.len();
+        match damage % 8 {
+            0..=2 => script[at] ^= 1 << ((damage >> 8) % 8),
+            3 => script.truncate(at),
+            _ => {}
+        }
+        let ours = unsafe { proved::probe_script(script.as_ptr(), script.len()) };
+        tally.same(ours, check(&script));
+    }
+    tally
+}
