@@ -1,0 +1,21 @@
+use lib.Ieee.{neg, ofBits}
+use borrow.Author.Needs.{needs}
+use Rattle.ladder.specs.Ladder.{drivenLevelOf}
+use Rattle.ladder.proofs.driven_level.Statement.{statement}
+use Rattle.ladder.proofs.driven_level.Tie as tie
+
+drive-requires : tie.Need-drive-requires
+drive-requires c κs = search needs
+
+solve-requires : tie.Need-solve-requires
+solve-requires c κs = search needs
+
+array-read-result : tie.Need-array-read-result
+array-read-result c = search needs
+
+returns : tie.Need-returns
+unfolding drivenLevelOf neg ofBits
+returns c = rw (c .solve .ensures, c .before .before .drive .ensures)
+
+pub driven-level-spec : {M : Type 1} → statement M
+driven-level-spec = tie.close (tie.spec drive-requires solve-requires array-read-result returns)
