@@ -2,7 +2,7 @@
 ghost use mathlib.Core.Path.{_≡_};
 ghost use Prim.Native.Nat.{_+_, _*_, _≤_, _<_};
 ghost use lib.ListN.{getD};
-ghost use Rattle.bundle.specs.Layout.{integratorGainPlace, dampingPlace, sourceGainModulationPlace, surfacePlace, highpassLoadingPlace, displacementIndexOf, directionalPowerPlace, analogueSurface, header};
+ghost use Rattle.bundle.specs.Layout.{integratorGainPlace, dampingPlace, sourceGainModulationPlace, highpassLoadingPlace, displacementIndexOf, directionalPowerPlace, analogueSurface, header};
 ghost use Rattle.bundle.specs.Opening.{entryAt, firstDifference, checkOf, judgePlacesOf, judgeSectionOf, openOf};
 use answers::Answer;
 use answers::Buffer;
@@ -46,13 +46,6 @@ pub fn source_gain_modulation_place(code: u16) -> u32
     ensures { λ r. ⌜ r ≡ sourceGainModulationPlace code ⌝ }
 {
     2097272 + 4 * (code as u32)
-}
-
-// The loaded amplifier's output at a load and an input.
-pub fn surface_place(load: u8, input: u16) -> u32
-    ensures { λ r. ⌜ r ≡ surfacePlace load input ⌝ }
-{
-    2105464 + 4 * ((load as u32) * 2048 + (input as u32))
 }
 
 // The highpass output's loading at an effective cutoff.
