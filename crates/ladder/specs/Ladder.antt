@@ -72,7 +72,7 @@ one = f64 0x3ff0_0000_0000_0000
 abbrev addIf : Bool → Float → Float → Float
 addIf on x y = cond on (x ⊕ y) x
 
--- The links to the node below and to the node above, each of conductance 1.0, and 0.0 where there is no neighbour.
+-- The entries below and above the diagonal: -link, of a conductance of 1.0, and 0.0 where there is no neighbour.
 abbrev pub lowerOf : List Float
 lowerOf = f64 0 ∷ replicate 11 (neg one)
 

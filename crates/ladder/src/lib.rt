@@ -91,37 +91,6 @@ fn solve(lower: &[f64; 12], diagonal: &[f64; 12], upper: &[f64; 12], rhs: &[f64;
 
 // ---- ladder_weights
 
-// The links of each node to the node below it and to the node above it, each a conductance of 1.0.
-const LOWER: [f64; 12] = [
-    0.0,
-    -1.0,
-    -1.0,
-    -1.0,
-    -1.0,
-    -1.0,
-    -1.0,
-    -1.0,
-    -1.0,
-    -1.0,
-    -1.0,
-    -1.0,
-];
-
-const UPPER: [f64; 12] = [
-    -1.0,
-    -1.0,
-    -1.0,
-    -1.0,
-    -1.0,
-    -1.0,
-    -1.0,
-    -1.0,
-    -1.0,
-    -1.0,
-    -1.0,
-    0.0,
-];
-
 // What meets at each node: its branch, a link to each neighbour, the load at the last and the termination at the first.
 fn diagonal(source: f64, terminated: bool) -> [f64; 12]
     ensures { λ r. ⌜ r ≡ diagonalOf source terminated ⌝ }
@@ -146,12 +115,16 @@ fn drive(source: f64, active: usize) -> [f64; 12]
     rhs
 }
 
-// The last node's level when one node is driven.
+// The last node's level when one node is driven. A link between neighbours has a conductance of 1.0.
 fn driven_level(source: f64, diagonal: &[f64; 12], active: usize) -> f64
     requires { ⌜ active < 12 ⌝ }
     ensures { λ r. ⌜ r ≡ drivenLevelOf source (now (diagonal .entry)) active ⌝ }
 {
-    let solved = solve(&LOWER, diagonal, &UPPER, &drive(source, active));
+    let mut lower = [-1.0; 12];
+    lower[0] = 0.0;
+    let mut upper = [-1.0; 12];
+    upper[11] = 0.0;
+    let solved = solve(&lower, diagonal, &upper, &drive(source, active));
     solved[11]
 }
 

@@ -1,3 +1,4 @@
+-- At each of the twelve nodes the definition computes to the code's sum.
 use borrow.Author.Needs.{needs}
 use Rattle.ladder.specs.Ladder.{tabulated}
 use Rattle.ladder.proofs.diagonal.Statement.{statement}

@@ -1,3 +1,4 @@
+-- The invariant: the levels below active are written.
 use Prim.Native.Nat.{_≤_, _-_}
 use mathlib.Core.Path.{refl}
 use native.Mathlib.Omega.{arith}

@@ -1,3 +1,4 @@
+-- The invariant: the first i shares are written.
 use Prim.Native.Nat.{_≤_, _-_}
 use mathlib.Core.Path.{refl}
 use native.Mathlib.Omega.{arith}

@@ -1,3 +1,4 @@
+-- The invariant: the positions below code are written, and the rest is as it was.
 use Prim.Native.Nat.{_≤_, _-_}
 use mathlib.Core.Path.{_≡_, refl, sym, _∙_}
 use native.Mathlib.Omega.{arith}

@@ -1,3 +1,4 @@
+-- The invariant: the entries from i on are the solution's.
 use Prim.Native.Nat.{_≤_, _-_, _+_}
 use mathlib.Core.Path.{refl}
 use native.Mathlib.Omega.{arith}

@@ -1,3 +1,4 @@
+-- The invariant: row is row i - 1, and the first i entries of both arrays are those of the rows.
 use Prim.Native.Nat.{_+_, _-_, _≤_}
 use mathlib.Core.Path.{_≡_, refl, ap, _∙_}
 use native.Mathlib.Omega.{arith}

@@ -1,3 +1,4 @@
+-- The invariant: sum is the sum of the first i.
 use Prim.Native.Nat.{_≤_, _-_}
 use mathlib.Core.Path.{_≡_, refl}
 use native.Mathlib.Omega.{arith}

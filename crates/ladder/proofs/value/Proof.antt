@@ -1,3 +1,4 @@
+-- The invariant: rest is the code without its lowest bits, and sum the sum over those.
 use Prim.Native.Nat.{_≤_, _-_, _/_, _^_}
 use mathlib.Core.Logic.{⊎-elim}
 use mathlib.Core.Path.{_≡_, refl, sym}
