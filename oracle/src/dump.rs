@@ -48,7 +48,7 @@ fn main() {
     save("load_position", load_position());
     save("sample", sample(&surface));
     save("sample_curve", sample_curve(&filter));
-    save("curves_digest", curves_digest(&filter));
+    save("curves", curve_entries(&filter));
     save("writes", writes(&mut filter));
 
     sums();
@@ -880,17 +880,9 @@ fn sample_curve(filter: &Filter) -> Vec<[u32; 3]> {
         .collect()
 }
 
-/// A curve's number and the digest of its bytes; number 31 is all of them together.
-fn curves_digest(filter: &Filter) -> Vec<[u32; 3]> {
-    let curves = curves(filter);
-    let digest = |curves: &[&[f32; 2049]]| halves(fnv(curves.iter().copied().flatten().flat_map(|entry| entry.to_le_bytes())));
-    (0..32u32)
-        .map(|number| {
-            let at = number as usize;
-            let [low, high] = digest(curves.get(at..=at).unwrap_or(&curves));
-            [number, low, high]
-        })
-        .collect()
+/// Every entry of the 31 curves, by its number among the words of the lent buffer.
+fn curve_entries(filter: &Filter) -> Vec<[u32; 2]> {
+    curves(filter).into_iter().flatten().zip(0..).map(|(&entry, number)| [number, word(entry)]).collect()
 }
 
 // ---- Register writes
