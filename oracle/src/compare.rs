@@ -8,10 +8,12 @@ include!("sid.rs");
 mod circuit;
 mod numbers;
 mod state;
+mod surface;
 
 fn main() {
     let mut subjects = circuit::compare();
     subjects.extend(state::compare());
+    subjects.extend(surface::compare());
     let mut differences = 0;
     for (name, tally) in &subjects {
         println!("{name}: {} compared, {} differences", tally.compared, tally.differences);

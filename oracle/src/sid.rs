@@ -49,6 +49,11 @@ mod tables {
         pub(super) fn entries(&self) -> &[f32] {
             &self.table
         }
+
+        /// A surface of other entries than `build_analogue_transfer_surface` works out.
+        pub(super) fn of(entries: Vec<f32>) -> Self {
+            Self { table: entries.into_boxed_slice() }
+        }
     }
 
     impl AnalogueLoadPosition {

@@ -1,1 +1,2 @@
 pub mod Probe
+pub mod Surface

@@ -1,4 +1,6 @@
 // The lower layers' functions under C names, for oracle/compare to set beside the Rust's. No product links this.
+mod surface;
+
 ghost use mathlib.Core.Path.{_≡_};
 ghost use Rattle.integrator.specs.Integrator.{saturateOf, advanceOf};
 ghost use Rattle.response.specs.Levels.{normaliseVoltageOf, conductanceCodeOf, outputCommonModeOf};

@@ -1,0 +1,87 @@
+// The surface and a curve: the refusing calls, and the total functions behind them.
+ghost use mathlib.Core.Path.{_≡_};
+ghost use Rattle.curves.specs.Sampling.{sampleOf, sampleCurveOf, restingOutputOf};
+ghost use Rattle.sid_filter.specs.Calls.{positionedOf, sampledOf, curveSampledOf};
+ghost use Rattle.probe.specs.Surface.{valueOf, loadOf};
+use sid_filter::Sampled;
+
+// An answer by its numbers, and the value beside it.
+#[repr(C)]
+pub struct Value {
+    pub number: u32,
+    pub buffer: u32,
+    pub place: u32,
+    pub value: f32,
+}
+
+#[repr(C)]
+pub struct Load {
+    pub number: u32,
+    pub lower_base: usize,
+    pub upper_base: usize,
+    pub fraction: f32,
+}
+
+fn numbers(r: Sampled) -> Value
+    ensures { λ v. ⌜ v ≡ valueOf r ⌝ }
+{
+    let answer = r.answer;
+    let told = answers::report(answer);
+    Value {
+        number: told.number,
+        buffer: told.buffer,
+        place: told.place,
+        value: r.value,
+    }
+}
+
+#[no_mangle]
+pub extern "C" fn probe_load_position(conductance: f32) -> Load
+    ensures { λ r. ⌜ r ≡ loadOf (positionedOf conductance) ⌝ }
+{
+    let r = sid_filter::load_position(conductance);
+    let answer = r.answer;
+    let position = r.position;
+    Load {
+        number: answers::report(answer).number,
+        lower_base: position.lower_base,
+        upper_base: position.upper_base,
+        fraction: position.fraction,
+    }
+}
+
+#[no_mangle]
+pub extern "C" fn probe_sample(bundle: &[u8], conductance: f32, input: f32) -> Value
+    ensures { λ r. ⌜ r ≡ valueOf (sampledOf (now (bundle .entry)) conductance input) ⌝ }
+{
+    numbers(sid_filter::sample(bundle, conductance, input))
+}
+
+#[no_mangle]
+pub extern "C" fn probe_sample_curve(curves: &[u8], curve: u8, input: f32) -> Value
+    ensures { λ r. ⌜ r ≡ valueOf (curveSampledOf (now (curves .entry)) curve input) ⌝ }
+{
+    numbers(sid_filter::sample_curve(curves, curve, input))
+}
+
+// The same for any float, and with no look at the bundle.
+#[no_mangle]
+pub extern "C" fn probe_any_sample(bundle: &[u8], conductance: f32, input: f32) -> f32
+    ensures { λ r. ⌜ r ≡ sampleOf (now (bundle .entry)) conductance input ⌝ }
+{
+    curves::sample(bundle, conductance, input)
+}
+
+#[no_mangle]
+pub extern "C" fn probe_any_sample_curve(curves: &[u8], curve: u8, input: f32) -> f32
+    ensures { λ r. ⌜ r ≡ sampleCurveOf (now (curves .entry)) curve input ⌝ }
+{
+    curves::sample_curve(curves, curve, input)
+}
+
+#[no_mangle]
+pub extern "C" fn probe_summer_resting_output(bundle: &[u8], count: usize) -> f32
+    ensures { λ r. ⌜ r ≡ restingOutputOf (now (bundle .entry)) count ⌝ }
+{
+    curves::summer_resting_output(bundle, count)
+}
