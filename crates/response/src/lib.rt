@@ -259,7 +259,15 @@ fn highpass_resonance_trim(m: u8, resonance: u8, p: f32) -> f32
     1.0
 }
 
-fn mode_index(m: u8) -> usize
+// Whether the mode's lower three bits select just one output.
+pub fn is_single_mode(m: u8) -> bool
+    ensures { λ r. ⌜ r ≡ G.singleOf m ⌝ }
+{
+    (m == 1) | (m == 2) | (m == 4)
+}
+
+// Its row in the loading tables: 0 low, 1 band, 2 high.
+pub fn mode_index(m: u8) -> u8
     ensures { λ r. ⌜ r ≡ G.modeIndexOf m ⌝ }
 {
     match m {
@@ -272,8 +280,8 @@ fn mode_index(m: u8) -> usize
 fn single_mode_loading(m: u8, resonance: u8, cutoff: u16) -> f32
     ensures { λ r. ⌜ r ≡ G.singleModeLoadingOf m resonance cutoff ⌝ }
 {
-    if (m == 1) | (m == 2) | (m == 4) {
-        let row = mode_index(m);
+    if is_single_mode(m) {
+        let row = mode_index(m) as usize;
         let at = loading_position(cutoff);
         let lower = constants::single_mode_cutoff_gain(row, at.lower);
         let upper = constants::single_mode_cutoff_gain(row, at.upper);
