@@ -1,6 +1,6 @@
 -- Laws of the layout, and of the entries that a call reads.
 use Prim.Native.Nat.{ℕ, zero, suc, _+_, _-_, _*_, _/_, _%_, _^_, _≤_, _<_}
-use mathlib.Core.Path.{_≡_, refl, ap, sym, _∙_}
+use mathlib.Core.Path.{_≡_, refl, ap, _∙_}
 use mathlib.Core.Bool.{Bool, true, false, cond}
 use mathlib.Core.Logic.{⊎-elim}
 use mathlib.Core.List.{List, [], _∷_, _++_}
@@ -14,7 +14,6 @@ use lib.Seq.{drop-cons, getD-append-add}
 use mir.Syntax.{w16}
 use mir.Val.{ofZ, SFits}
 use Rattle.answers.specs.declared.Buffer.{Buffer}
-use Rattle.answers.specs.declared.Answer.{Answer}
 use Rattle.answers.specs.declared.Answer.the-variants.{Done, Entry}
 use Rattle.answers.specs.Answers.{firstOf}
 use Rattle.wire.specs.Wire.{bytesOf, usableAt}

@@ -1,0 +1,37 @@
+use Prim.Native.Nat.{_+_, _-_, _*_}
+use mathlib.Core.Path.{_≡_}
+use native.Mathlib.Omega.{arith}
+use Rattle.curves.specs.Building.{rowOf}
+use borrow.Author.Needs.{needs}
+use Rattle.curves.proofs.table_row.Statement.{statement}
+use Rattle.curves.proofs.table_row.Tie as tie
+
+mul-from : tie.Need-mul-from
+mul-from c = search needs
+
+add-from : tie.Need-add-from
+add-from c = search needs
+
+add-end : tie.Need-add-end
+add-end c = search needs
+
+sub-result : tie.Need-sub-result
+sub-result c = search needs
+
+part-result-start : tie.Need-part-result-start
+part-result-start c = search needs
+
+part-result-end : tie.Need-part-result-end
+part-result-end c = search needs
+
+returns : tie.Need-returns
+unfolding rowOf
+returns c =
+    let from = 2105464 + 4 * c .before .args .base in
+    let e : from + 8192 - from ≡ 8192 = omega arith in
+    rw e
+
+pub table-row-spec : {M : Type 1} → statement M
+table-row-spec =
+    tie.close
+    (tie.spec mul-from add-from add-end sub-result part-result-start part-result-end returns)

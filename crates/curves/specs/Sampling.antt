@@ -1,0 +1,85 @@
+-- Positions in the analogue surface and its sampling, operation by operation from tables.rs, and what each reads.
+use Prim.Native.Nat.{ℕ, _+_, _*_}
+use mathlib.Core.Bool.{cond}
+use mathlib.Core.List.{List, [], _∷_}
+use lib.Dec.{leb}
+use lib.Ieee.{Float}
+use Rattle.constants.specs.Values as K
+use Rattle.floats.specs.Arithmetic.{_⊗_, _⊘_, f32}
+use Rattle.floats.specs.Floats.{clampOf, ofSmall}
+use Rattle.response.specs.declared.TablePosition.{TablePosition}
+use Rattle.response.specs.Levels.{between, quiescentLevelOf}
+use Rattle.response.specs.Position.{tablePositionOf}
+use Rattle.bundle.specs.Layout.{analogueSurface, entryPlace}
+use Rattle.bundle.specs.Opening.{entryAt}
+use Rattle.curves.specs.declared.LoadPosition.{LoadPosition}
+
+-- ---- positions
+
+-- `load_position`: a conductance of 0 to 9 lies between two of the 145 loads. A base is the index of a load's first entry.
+unfoldable pub loadPositionOf : Float → LoadPosition
+loadPositionOf conductance =
+    let at = tablePositionOf 144 (clampOf conductance (f32 0) K.SID-ANALOGUE-MAX-CONDUCTANCE ⊗ f32 0x4310_0000 ⊘ K.SID-ANALOGUE-MAX-CONDUCTANCE) in
+    record { «lower_base» = at .lower * 2048; «upper_base» = at .upper * 2048; fraction = at .fraction }
+
+-- An input of 0 to 1 lies between two of the 2,048 entries of a load's row.
+unfoldable pub inputPositionOf : Float → TablePosition
+inputPositionOf input = tablePositionOf 2047 (clampOf input (f32 0) (f32 0x3f80_0000) ⊗ f32 0x44ff_e000)
+
+-- ---- the surface
+
+-- The place of an index of the surface's table, and the entry there.
+abbrev pub tablePlace : ℕ → ℕ
+tablePlace index = entryPlace analogueSurface index
+
+abbrev pub tableAt : List ℕ → ℕ → Float
+tableAt bundle index = entryAt bundle (tablePlace index)
+
+-- `sample_at`: over the input first, in the row of either load, and then over the load
+unfoldable pub sampleAtOf : List ℕ → LoadPosition → TablePosition → Float
+sampleAtOf bundle load at =
+    between (between (tableAt bundle (load .«lower_base» + at .lower)) (tableAt bundle (load .«lower_base» + at .upper)) (at .fraction))
+    (between (tableAt bundle (load .«upper_base» + at .lower)) (tableAt bundle (load .«upper_base» + at .upper)) (at .fraction))
+    (load .fraction)
+
+-- `sample`
+unfoldable pub sampleOf : List ℕ → Float → Float → Float
+sampleOf bundle conductance input = sampleAtOf bundle (loadPositionOf conductance) (inputPositionOf input)
+
+-- The places that `sample_at` reads, in its order: lower left, lower right, upper left, upper right.
+unfoldable pub cornersOf : LoadPosition → TablePosition → List ℕ
+cornersOf load at =
+    tablePlace (load .«lower_base» + at .lower) ∷
+    tablePlace (load .«lower_base» + at .upper) ∷
+    tablePlace (load .«upper_base» + at .lower) ∷
+    tablePlace (load .«upper_base» + at .upper) ∷
+    []
+
+unfoldable pub samplePlacesOf : Float → Float → List ℕ
+samplePlacesOf conductance input = cornersOf (loadPositionOf conductance) (inputPositionOf input)
+
+-- ---- a curve, of the 31 in a buffer
+
+-- The place of an entry of a curve.
+abbrev pub curvePlace : ℕ → ℕ → ℕ
+curvePlace curve index = 4 * (curve * 2049 + index)
+
+-- `sample_curve`: entry 2,048 is there, so the next index needs no bound
+unfoldable pub sampleCurveOf : List ℕ → ℕ → Float → Float
+sampleCurveOf curves curve input =
+    let at = inputPositionOf input in
+    between (entryAt curves (curvePlace curve (at .lower))) (entryAt curves (curvePlace curve (at .lower + 1))) (at .fraction)
+
+unfoldable pub sampleCurvePlacesOf : ℕ → Float → List ℕ
+sampleCurvePlacesOf curve input =
+    let at = inputPositionOf input in
+    curvePlace curve (at .lower) ∷ curvePlace curve (at .lower + 1) ∷ []
+
+-- ---- the summer at rest
+
+-- `summer_resting_output` of `Filter::new`: the surface at the load of `count` inputs and the quiescent level, and 0 for counts below 2
+unfoldable pub restingOutputOf : List ℕ → ℕ → Float
+restingOutputOf bundle count = cond (leb 2 count) (sampleOf bundle (ofSmall count) quiescentLevelOf) (f32 0)
+
+unfoldable pub restingPlacesOf : ℕ → List ℕ
+restingPlacesOf count = cond (leb 2 count) (samplePlacesOf (ofSmall count) quiescentLevelOf) []

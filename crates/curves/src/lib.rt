@@ -1,0 +1,313 @@
+// The loaded amplifier's transfer curves: positions in the analogue surface, sampling the surface and a curve, and building the 31 curves.
+// A sampling function is total: an unusable entry counts as the float that it is, and the judging function beside it refuses it.
+ghost use mathlib.Core.Path.{_≡_};
+ghost use Prim.Native.Nat.{_+_, _*_, _≤_, _<_, min};
+ghost use lib.ListN.{length};
+ghost use mathlib.Core.Bool.{true};
+ghost use lib.Ieee.{toUnsigned};
+ghost use Rattle.wire.specs.Wire.{f32At, usableAt};
+ghost use Rattle.answers.specs.declared.Buffer.the-variants.{Bundle, Curves};
+ghost use Rattle.response.specs.Position.{tablePositionOf};
+ghost use Rattle.bundle.specs.Opening.{judgePlacesOf};
+ghost use Rattle.curves.specs.Sampling.{loadPositionOf, inputPositionOf, tablePlace, samplePlacesOf, sampleOf, curvePlace, sampleCurvePlacesOf, sampleCurveOf, restingPlacesOf, restingOutputOf};
+ghost use Rattle.curves.specs.Building.{curveLoadOf, volumeEntryOf, finishedOf, rowOf, UsableRow, blendOf, blendsOf, Buildable, curveOf, curvesOf, buildAnswerOf, builtOf};
+use answers::Answer;
+use answers::Buffer;
+use response::TablePosition;
+
+// The rows of the two loads that a conductance lies between, each by the index of its first entry, and how far it lies from the lower one.
+pub struct LoadPosition {
+    pub lower_base: usize,
+    pub upper_base: usize,
+    pub fraction: f32,
+}
+
+// ---- positions
+
+fn next_index(lower: usize, last: usize) -> usize
+    ensures { λ r. ⌜ r ≡ min (lower + 1) last ⌝ }
+{
+    if lower < last { lower + 1 } else { last }
+}
+
+// Between which two entries of a table a position lies.
+fn table_position(last: usize, position: f32) -> TablePosition
+    requires { ⌜ toUnsigned 64 position ≤ last × last ≤ 16777216 ⌝ }
+    ensures { λ r. ⌜ r ≡ tablePositionOf last position ⌝ }
+{
+    let lower = floats::as_usize(position);
+    TablePosition {
+        lower,
+        upper: next_index(lower, last),
+        fraction: position - floats::of_usize(lower),
+    }
+}
+
+// The loads that a conductance lies between: it is clamped to 0 to 9, and the index of a load is at most 144.
+pub fn load_position(conductance: f32) -> LoadPosition
+    ensures { λ r. ⌜ r ≡ loadPositionOf conductance ⌝ }
+{
+    let most = constants::SID_ANALOGUE_MAX_CONDUCTANCE;
+    let at = table_position(144, floats::clamp(conductance, 0.0, most) * 144.0 / most);
+    LoadPosition {
+        lower_base: at.lower * 2048,
+        upper_base: at.upper * 2048,
+        fraction: at.fraction,
+    }
+}
+
+// The entries of a row that an input lies between: it is clamped to 0 to 1, and the lower index is at most 2,047.
+fn input_position(input: f32) -> TablePosition
+    ensures { λ r. ⌜ r ≡ inputPositionOf input ⌝ }
+{
+    table_position(2047, floats::clamp(input, 0.0, 1.0) * 2047.0)
+}
+
+// ---- the surface
+
+fn table_place(base: usize, index: usize) -> u32
+    requires { ⌜ (base ≤ 294912) × (index ≤ 2047) ⌝ }
+    ensures { λ r. ⌜ r ≡ tablePlace (base + index) ⌝ }
+{
+    (2105464 + 4 * (base + index)) as u32
+}
+
+// The four entries between which a conductance and an input lie, in the order in which they are read.
+fn sample_places(conductance: f32, input: f32) -> [u32; 4]
+    ensures { λ r. ⌜ r ≡ samplePlacesOf conductance input ⌝ }
+{
+    let load = load_position(conductance);
+    let at = input_position(input);
+    [
+        table_place(load.lower_base, at.lower),
+        table_place(load.lower_base, at.upper),
+        table_place(load.upper_base, at.lower),
+        table_place(load.upper_base, at.upper),
+    ]
+}
+
+// Refuses at the first unusable entry that `sample` reads.
+pub fn judge_sample(bundle: &[u8], conductance: f32, input: f32) -> Answer
+    ensures { λ r. ⌜ r ≡ judgePlacesOf Bundle (now (bundle .entry)) (samplePlacesOf conductance input) ⌝ }
+{
+    let places = sample_places(conductance, input);
+    bundle::judge_places(Buffer::Bundle, bundle, &places)
+}
+
+// The amplifier's output at a conductance and an input: over the input first, then over the load.
+pub fn sample(bundle: &[u8], conductance: f32, input: f32) -> f32
+    ensures { λ r. ⌜ r ≡ sampleOf (now (bundle .entry)) conductance input ⌝ }
+{
+    let load = load_position(conductance);
+    let at = input_position(input);
+    let places = sample_places(conductance, input);
+    let lower = response::interpolate(
+        bundle::entry_at(bundle, places[0]),
+        bundle::entry_at(bundle, places[1]),
+        at.fraction,
+    );
+    let upper = response::interpolate(
+        bundle::entry_at(bundle, places[2]),
+        bundle::entry_at(bundle, places[3]),
+        at.fraction,
+    );
+    response::interpolate(lower, upper, load.fraction)
+}
+
+// ---- a curve
+
+fn curve_place(curve: u8, index: usize) -> u32
+    requires { ⌜ index ≤ 2048 ⌝ }
+    ensures { λ r. ⌜ r ≡ curvePlace curve index ⌝ }
+{
+    4 * ((curve as u32) * 2049 + (index as u32))
+}
+
+// The two entries of a curve between which an input lies, in the order in which they are read.
+fn sample_curve_places(curve: u8, input: f32) -> [u32; 2]
+    ensures { λ r. ⌜ r ≡ sampleCurvePlacesOf curve input ⌝ }
+{
+    let at = input_position(input);
+    [
+        curve_place(curve, at.lower),
+        curve_place(curve, at.lower + 1),
+    ]
+}
+
+// Refuses at the first unusable entry that `sample_curve` reads.
+pub fn judge_sample_curve(curves: &[u8], curve: u8, input: f32) -> Answer
+    ensures { λ r. ⌜ r ≡ judgePlacesOf Curves (now (curves .entry)) (sampleCurvePlacesOf curve input) ⌝ }
+{
+    let places = sample_curve_places(curve, input);
+    bundle::judge_places(Buffer::Curves, curves, &places)
+}
+
+// A curve at an input.
+pub fn sample_curve(curves: &[u8], curve: u8, input: f32) -> f32
+    ensures { λ r. ⌜ r ≡ sampleCurveOf (now (curves .entry)) curve input ⌝ }
+{
+    let at = input_position(input);
+    let places = sample_curve_places(curve, input);
+    response::interpolate(
+        bundle::entry_at(curves, places[0]),
+        bundle::entry_at(curves, places[1]),
+        at.fraction,
+    )
+}
+
+// ---- the summer at rest
+
+// Refuses at the first unusable entry that `summer_resting_output` reads.
+pub fn judge_summer_resting_output(bundle: &[u8], count: usize) -> Answer
+    ensures { λ r. ⌜ r ≡ judgePlacesOf Bundle (now (bundle .entry)) (restingPlacesOf count) ⌝ }
+{
+    if 2 <= count {
+        return judge_sample(
+            bundle,
+            floats::of_usize(count),
+            response::filter_mode_quiescent_level(),
+        );
+    }
+    Answer::Done
+}
+
+// The summer's output at rest, for a count of inputs with the two that are always there.
+pub fn summer_resting_output(bundle: &[u8], count: usize) -> f32
+    ensures { λ r. ⌜ r ≡ restingOutputOf (now (bundle .entry)) count ⌝ }
+{
+    if 2 <= count {
+        return sample(
+            bundle,
+            floats::of_usize(count),
+            response::filter_mode_quiescent_level(),
+        );
+    }
+    0.0
+}
+
+// ---- building
+
+// The conductance that a curve is built for: a count of inputs at the summer, one at the mixer, or a volume.
+fn curve_load(curve: u8) -> f32
+    ensures { λ r. ⌜ r ≡ curveLoadOf curve ⌝ }
+{
+    if curve < 7 {
+        return floats::of_u16(curve as u16);
+    }
+    if curve < 15 {
+        return floats::of_u16((curve - 7) as u16) * constants::SID_MIXER_CONDUCTANCE_PER_INPUT;
+    }
+    response::volume_dac_conductance_code(curve - 15) / constants::SID_VOLUME_CONDUCTANCE_DIVISOR
+}
+
+// A volume curve's entry is centred and moved by the DAC's bias.
+fn volume_entry(volume: u8, entry: f32) -> f32
+    ensures { λ r. ⌜ r ≡ volumeEntryOf volume entry ⌝ }
+{
+    let bias = constants::SID_VOLUME_DAC_BIAS_FULL * (floats::of_u16(volume as u16) / 15.0);
+    (entry - constants::SID_VOLUME_OUTPUT_CENTRE + bias) * constants::SID_VOLUME_OUTPUT_GAIN
+}
+
+fn finished(curve: u8, entry: f32) -> f32
+    ensures { λ r. ⌜ r ≡ finishedOf curve entry ⌝ }
+{
+    if curve < 15 {
+        entry
+    } else {
+        volume_entry(curve - 15, entry)
+    }
+}
+
+// The row of a load, by the index of its first entry.
+fn table_row(bundle: &[u8], base: usize) -> &[u8]
+    requires { ⌜ (base ≤ 294912) × (length (now bundle) ≡ 6127736) ⌝ }
+    ensures { λ r. ⌜ now r ≡ rowOf (now (bundle .entry)) base ⌝ }
+{
+    let from = 2105464 + 4 * base;
+    let end = from + 8192;
+    &bundle[from..end]
+}
+
+// An entry of a row. It is usable, so its bits are no NaN's, and the loop over a row has no test in it.
+fn row_entry(row: &[u8], code: usize) -> f32
+    requires { ⌜ (code ≤ 2047) × (usableAt (now row) (4 * code) ≡ true) ⌝ }
+    ensures { λ r. ⌜ r ≡ f32At (now (row .entry)) (4 * code) ⌝ }
+{
+    f32::from_bits(wire::u32_at(row, 4 * code))
+}
+
+// An entry of a curve, from the rows of its two loads.
+fn blend(lower: &[u8], upper: &[u8], fraction: f32, curve: u8, code: usize) -> f32
+    requires { ⌜ (code ≤ 2047) × UsableRow (now lower) × UsableRow (now upper) ⌝ }
+    ensures { λ r. ⌜ r ≡ blendOf (now (lower .entry)) (now (upper .entry)) fraction curve code ⌝ }
+{
+    let entry = response::interpolate(row_entry(lower, code), row_entry(upper, code), fraction);
+    finished(curve, entry)
+}
+
+// All entries of a curve, from the rows of its two loads; the last is there twice.
+fn blend_rows(row: &mut [u8], lower: &[u8], upper: &[u8], fraction: f32, curve: u8)
+    requires { ⌜ (length (now row) ≡ 8196) × UsableRow (now lower) × UsableRow (now upper) ⌝ }
+    ensures { λ _. ⌜ now (row .exit) ≡ blendsOf (now (lower .entry)) (now (upper .entry)) fraction curve ⌝ }
+{
+    let mut k = 0;
+    while k < 2048 {
+        wire::put_f32(row, 4 * k, blend(lower, upper, fraction, curve, k));
+        k += 1;
+    }
+    wire::put_f32(row, 8192, blend(lower, upper, fraction, curve, 2047));
+}
+
+// One curve, into its 8,196 bytes.
+fn build_curve(bundle: &[u8], row: &mut [u8], curve: u8)
+    requires { ⌜ Buildable (now bundle) × (length (now row) ≡ 8196) ⌝ }
+    ensures { λ _. ⌜ now (row .exit) ≡ curveOf (now (bundle .entry)) curve ⌝ }
+{
+    let load = load_position(curve_load(curve));
+    blend_rows(
+        row,
+        table_row(bundle, load.lower_base),
+        table_row(bundle, load.upper_base),
+        load.fraction,
+        curve,
+    );
+}
+
+fn build_curves(bundle: &[u8], curves: &mut [u8])
+    requires { ⌜ Buildable (now bundle) × (length (now curves) ≡ 254076) ⌝ }
+    ensures { λ _. ⌜ now (curves .exit) ≡ curvesOf (now (bundle .entry)) ⌝ }
+{
+    let mut curve = 0;
+    while curve < 31 {
+        let from = 8196 * (curve as usize);
+        let end = from + 8196;
+        build_curve(bundle, &mut curves[from..end], curve);
+        curve += 1;
+    }
+}
+
+// The bundle's length and header, the buffer's length, then every entry of the surface.
+fn judge_build(bundle: &[u8], long: usize) -> Answer
+    ensures { λ r. ⌜ r ≡ buildAnswerOf (now (bundle .entry)) long ⌝ }
+{
+    let checked = bundle::check(bundle);
+    if answers::is_done(checked) {
+        if long != 254076 {
+            return Answer::CurvesLength;
+        }
+        return bundle::judge_surface(bundle);
+    }
+    checked
+}
+
+// Builds the 31 curves. A build that is refused writes nothing.
+pub fn build(bundle: &[u8], curves: &mut [u8]) -> Answer
+    ensures { λ r. ⌜ r ≡ buildAnswerOf (now (bundle .entry)) (length (now (curves .entry))) ⌝ }
+    ensures { λ _. ⌜ now (curves .exit) ≡ builtOf (now (bundle .entry)) (now (curves .entry)) ⌝ }
+{
+    let judged = judge_build(bundle, curves.len());
+    if answers::is_done(judged) {
+        build_curves(bundle, curves);
+    }
+    judged
+}
