@@ -41,19 +41,19 @@ abbrev pub summerInputsOf : ℕ → ℕ
 summerInputsOf count = 2 + min count 4
 
 -- (input_sum + 2.0 * quiescent) * summer_input_reciprocal
-abbrev pub averageOf : Float → Float → Float
-averageOf reciprocal sum = (sum ⊕ f32 0x4000_0000 ⊗ quiescentLevelOf) ⊗ reciprocal
+abbrev pub averageOf : MixingTopology → Float → Float
+averageOf t sum = (sum ⊕ f32 0x4000_0000 ⊗ quiescentLevelOf) ⊗ t .«summer_input_reciprocal»
 
 unfoldable pub summerOf : List ℕ → List ℕ → MixingTopology → Float → Float
 summerOf bundle curves t sum =
     let inputs = summerInputsOf (t .«filter_input_count») in
-    sampleCurveOf curves inputs (averageOf (t .«summer_input_reciprocal») sum) ⊖ restingOutputOf bundle inputs
+    sampleCurveOf curves inputs (averageOf t sum) ⊖ restingOutputOf bundle inputs
 
 -- what it reads: two entries of the curve, then four of the surface for the resting output
 unfoldable pub judgeSummerOf : List ℕ → List ℕ → MixingTopology → Float → Answer
 judgeSummerOf bundle curves t sum =
     let inputs = summerInputsOf (t .«filter_input_count») in
-    firstOf (judgePlacesOf Curves curves (sampleCurvePlacesOf inputs (averageOf (t .«summer_input_reciprocal») sum))) (judgePlacesOf Bundle bundle (restingPlacesOf inputs))
+    firstOf (judgePlacesOf Curves curves (sampleCurvePlacesOf inputs (averageOf t sum))) (judgePlacesOf Bundle bundle (restingPlacesOf inputs))
 
 -- ---- `advance_filter_core`
 

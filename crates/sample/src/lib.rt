@@ -41,10 +41,11 @@ fn summer_inputs(count: usize) -> u8
     if count < 4 { 2 + (count as u8) } else { 6 }
 }
 
-fn average(reciprocal: f32, sum: f32) -> f32
-    ensures { λ r. ⌜ r ≡ S.averageOf reciprocal sum ⌝ }
+// The level of one input, with the two that are always there at rest.
+fn average(topology: MixingTopology, sum: f32) -> f32
+    ensures { λ r. ⌜ r ≡ S.averageOf topology sum ⌝ }
 {
-    (sum + 2.0 * response::filter_mode_quiescent_level()) * reciprocal
+    (sum + 2.0 * response::filter_mode_quiescent_level()) * topology.summer_input_reciprocal
 }
 
 // The summer's output above its output at rest.
@@ -57,7 +58,7 @@ pub fn summer_transfer(
     ensures { λ r. ⌜ r ≡ S.summerOf (now (bundle .entry)) (now (curves .entry)) topology «input_sum» ⌝ }
 {
     let inputs = summer_inputs(topology.filter_input_count);
-    let average = average(topology.summer_input_reciprocal, input_sum);
+    let average = average(topology, input_sum);
     curves::sample_curve(curves, inputs, average)
         - curves::summer_resting_output(bundle, inputs as usize)
 }
@@ -72,7 +73,7 @@ pub fn judge_summer(
     ensures { λ r. ⌜ r ≡ S.judgeSummerOf (now (bundle .entry)) (now (curves .entry)) topology «input_sum» ⌝ }
 {
     let inputs = summer_inputs(topology.filter_input_count);
-    let average = average(topology.summer_input_reciprocal, input_sum);
+    let average = average(topology, input_sum);
     let curve = curves::judge_sample_curve(curves, inputs, average);
     answers::first(
         curve,

@@ -6,7 +6,7 @@ filter-mode-quiescent-level-requires : tie.Need-filter-mode-quiescent-level-requ
 filter-mode-quiescent-level-requires c κs = search needs
 
 returns : tie.Need-returns
-returns c = simp (c .filter-mode-quiescent-level .ensures)
+returns c = simp (c .before .filter-mode-quiescent-level .ensures)
 
 pub average-spec : {M : Type 1} → statement M
 average-spec = tie.close (tie.spec filter-mode-quiescent-level-requires returns)
