@@ -3,6 +3,7 @@
 use crate::control::FilterRegisters;
 use crate::filter::Filter;
 use crate::numbers::{Random, Tally};
+use crate::surface;
 
 mod proved {
     #[repr(C)]
@@ -143,7 +144,7 @@ fn nibbles(filter: &mut Filter) -> Tally {
 
 /// Random writes, and after each the Rust's control cache beside the controls worked out afresh from the state.
 fn controls(filter: &mut Filter) -> Tally {
-    let bundle = std::fs::read("crates/vectors/data/bundle.bin").expect("the bundle, from the root of the repository");
+    let bundle = surface::data("bundle");
     let (mut tally, mut random) = (Tally::default(), Random(7));
     for _ in 0..200_000 {
         let bits = random.bits();
