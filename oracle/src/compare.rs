@@ -7,6 +7,7 @@ include!("sid.rs");
 
 mod circuit;
 mod numbers;
+mod sample;
 mod state;
 mod surface;
 
@@ -14,6 +15,7 @@ fn main() {
     let mut subjects = circuit::compare();
     subjects.extend(state::compare());
     subjects.extend(surface::compare());
+    subjects.extend(sample::compare());
     let mut differences = 0;
     for (name, tally) in &subjects {
         println!("{name}: {} compared, {} differences", tally.compared, tally.differences);

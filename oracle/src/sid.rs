@@ -78,6 +78,27 @@ mod filter {
         pub(super) fn curves(&self) -> &TransferCurves {
             &self.curves
         }
+
+        pub(super) fn state(&mut self) -> &mut IntegratorState {
+            &mut self.state
+        }
+
+        /// One sample: high, band and low of the core, and what the mode selects.
+        pub(super) fn sample(&mut self, filter_input_sum: f32, filter_source_energy: f32) -> [f32; 4] {
+            let mut signals = RoutedSignals {
+                filter_input_sum,
+                filter_source_energy,
+                filter_input_activity: 0.0,
+                bypass_input_sum: 0.0,
+                bypass_envelope_activity: 0.0,
+                pure_bypass_envelope_activity: 0.0,
+                pure_bypass_attack_drive: 0.0,
+                pure_pulse_envelope_activity: 0.0,
+            };
+            let outputs = self.advance_filter_core(&mut signals);
+            let FilterOutputs { high_pass, band_pass, low_pass } = outputs;
+            [high_pass, band_pass, low_pass, self.select_filter_output(outputs)]
+        }
     }
 }
 

@@ -70,7 +70,7 @@ pub fn compare() -> Vec<(&'static str, Tally)> {
 }
 
 /// Document 01's block of a state, the floats given by their bits.
-fn block(registers: &FilterRegisters, floats: [u32; 3]) -> [u8; 24] {
+pub fn block(registers: &FilterRegisters, floats: [u32; 3]) -> [u8; 24] {
     let mut bytes = [0; 24];
     bytes[0..2].copy_from_slice(&registers.cutoff.to_le_bytes());
     bytes[2..4].copy_from_slice(&registers.cutoff_dac_displacement_codes.to_le_bytes());

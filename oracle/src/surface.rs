@@ -115,7 +115,7 @@ fn bytes(entries: &[f32]) -> impl Iterator<Item = u8> + '_ {
 }
 
 /// The Rust's curves in document 01's order.
-fn curves_of(filter: &Filter) -> Vec<u8> {
+pub fn curves_of(filter: &Filter) -> Vec<u8> {
     let curves = filter.curves();
     curves.summer.iter().chain(&curves.mixer).chain(&curves.volume).flat_map(|curve| bytes(&curve[..])).collect()
 }

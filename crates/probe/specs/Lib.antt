@@ -1,2 +1,3 @@
 pub mod Probe
 pub mod Surface
+pub mod Filter
