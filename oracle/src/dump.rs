@@ -41,12 +41,14 @@ fn main() {
     save("common_mode", common_mode());
     save("mode_gain", mode_gain());
     save("topology", topology());
+    save("solve_tridiagonal", solutions());
     save("ladder_weights", weights());
+    save("ladder_value", levels());
     save("control_positions", positions());
     save("load_position", load_position());
     save("sample", sample(&surface));
     save("sample_curve", sample_curve(&filter));
-    save("curves_digest", curves_digest(&filter));
+    save("curves", curve_entries(&filter));
     save("writes", writes(&mut filter));
 
     sums();
@@ -127,6 +129,12 @@ impl Random {
     /// Any pattern of bits.
     fn any(&mut self) -> f32 {
         f32::from_bits(self.bits() as u32)
+    }
+
+    /// Either sign, magnitude from 2^-60 to 2^60.
+    fn double(&mut self) -> f64 {
+        let bits = self.bits();
+        f64::from_bits((bits & 0x800f_ffff_ffff_ffff) | (u64::from(963 + self.below(120)) << 52))
     }
 
     /// Either sign, magnitude from 2^-30 to 2^26.
@@ -752,6 +760,57 @@ fn topology() -> Vec<[u32; 19]> {
 
 // ---- Ladder
 
+fn twelve_words(xs: &[f64; 12]) -> [u32; 24] {
+    joined([xs.map(words_f64).as_flattened()])
+}
+
+/// Lower, diagonal, upper and right side of a network, its solution. In turn: a diagonal that outweighs the links, any numbers, zeros of
+/// either sign among them, and one entry that is not finite.
+fn solutions() -> Vec<[u32; 120]> {
+    let mut random = Random::of("solve_tridiagonal");
+    (0..400)
+        .map(|number| {
+            let mut network = [[0.0; 12]; 4];
+            for entry in network.as_flattened_mut() {
+                *entry = if number % 4 == 0 { random.between(-1.0, 1.0).into() } else { random.double() };
+            }
+            match number % 4 {
+                0 => network[1] = network[1].map(|entry| entry + 4.0),
+                2 => (0..6).for_each(|_| network[random.below(4) as usize][random.below(12) as usize] = random.pick(&[0.0, -0.0]).into()),
+                3 => {
+                    let odd = random.pick(&[f32::INFINITY, f32::NEG_INFINITY, f32::NAN]).into();
+                    network[random.below(4) as usize][random.below(12) as usize] = odd;
+                }
+                _ => (),
+            }
+            let parts = network.map(|part| twelve_words(&part));
+            joined([parts.as_flattened(), &twelve_words(&twelve_solved(&network))])
+        })
+        .collect()
+}
+
+/// Code, leakage, the twelve weights, the level.
+fn levels() -> Vec<[u32; 29]> {
+    let mut random = Random::of("ladder_value");
+    let cutoff = twelve_weights(SID_FILTER_DAC_TWO_R_OVER_R, false);
+    let codes = [0, 1, 2, 1_365, 2_047, 2_048, 2_049, 4_094, 4_095, 4_096, 4_097, u32::MAX];
+    let mut inputs: Vec<(u32, f64, [f64; 12])> = codes.map(|code| (code, SID_DAC_LEAKAGE, cutoff)).to_vec();
+    for weight in [0.0, -0.0, 1.0, f64::MIN_POSITIVE, f64::MAX, f64::INFINITY, f64::NAN] {
+        for leakage in [0.0, -0.0, SID_DAC_LEAKAGE, -1.0, f64::INFINITY, f64::NAN] {
+            inputs.extend([0, 2_730, 4_095].map(|code| (code, leakage, [weight; 12])));
+        }
+    }
+    inputs.extend((0..200).map(|_| (random.below(4_096), SID_DAC_LEAKAGE, cutoff)));
+    inputs.extend((0..200).map(|_| (random.below(4_096), random.double(), [0.0; 12].map(|_: f64| random.double()))));
+    inputs
+        .into_iter()
+        .map(|(code, leakage, weights)| {
+            let level = twelve_value(code as usize, &weights, leakage);
+            joined([&[code], &words_f64(leakage), &twelve_words(&weights), &words_f64(level)])
+        })
+        .collect()
+}
+
 /// Ratio, terminated, the twelve weights.
 fn weights() -> Vec<[u32; 27]> {
     let mut random = Random::of("ladder_weights");
@@ -762,10 +821,7 @@ fn weights() -> Vec<[u32; 27]> {
     ratios
         .into_iter()
         .flat_map(|ratio| [(ratio, false), (ratio, true)])
-        .map(|(ratio, terminated)| {
-            let weights = twelve_weights(ratio, terminated).map(words_f64);
-            joined([&words_f64(ratio), &[terminated.into()], weights.as_flattened()])
-        })
+        .map(|(ratio, terminated)| joined([&words_f64(ratio), &[terminated.into()], &twelve_words(&twelve_weights(ratio, terminated))]))
         .collect()
 }
 
@@ -824,17 +880,9 @@ fn sample_curve(filter: &Filter) -> Vec<[u32; 3]> {
         .collect()
 }
 
-/// A curve's number and the digest of its bytes; number 31 is all of them together.
-fn curves_digest(filter: &Filter) -> Vec<[u32; 3]> {
-    let curves = curves(filter);
-    let digest = |curves: &[&[f32; 2049]]| halves(fnv(curves.iter().copied().flatten().flat_map(|entry| entry.to_le_bytes())));
-    (0..32u32)
-        .map(|number| {
-            let at = number as usize;
-            let [low, high] = digest(curves.get(at..=at).unwrap_or(&curves));
-            [number, low, high]
-        })
-        .collect()
+/// Every entry of the 31 curves, by its number among the words of the lent buffer.
+fn curve_entries(filter: &Filter) -> Vec<[u32; 2]> {
+    curves(filter).into_iter().flatten().zip(0..).map(|(&entry, number)| [number, word(entry)]).collect()
 }
 
 // ---- Register writes

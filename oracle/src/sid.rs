@@ -28,9 +28,17 @@ mod transients {
 mod tables {
     include!(concat!(env!("SID_DIR"), "/tables.rs"));
 
-    /// `ladder_weights` at the 12 nodes of the cutoff DAC.
+    /// The ladder's functions at the 12 nodes of the cutoff DAC.
+    pub(super) fn twelve_solved([lower, diagonal, upper, rhs]: &[[f64; 12]; 4]) -> [f64; 12] {
+        solve_tridiagonal(lower, diagonal, upper, rhs)
+    }
+
     pub(super) fn twelve_weights(two_r_over_r: f64, terminated: bool) -> [f64; 12] {
         ladder_weights(two_r_over_r, terminated)
+    }
+
+    pub(super) fn twelve_value(code: usize, weights: &[f64; 12], leakage: f64) -> f64 {
+        ladder_value(code, weights, leakage)
     }
 
     pub(super) fn control_positions() -> [f32; 2048] {

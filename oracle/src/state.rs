@@ -3,6 +3,7 @@
 use crate::control::FilterRegisters;
 use crate::filter::Filter;
 use crate::numbers::{Random, Tally};
+use crate::surface;
 
 mod proved {
     #[repr(C)]
@@ -13,10 +14,46 @@ mod proved {
         pub samples: usize,
     }
 
+    #[repr(C)]
+    pub struct FilterControls {
+        pub effective_cutoff_index: usize,
+        pub integrator_gain: [f32; 16],
+        pub input_drive: [f32; 16],
+        pub feedback_drive: [f32; 16],
+        pub damping: f32,
+        pub source_gain_modulation: f32,
+        pub high_pass_low_coupling: f32,
+        pub band_pass_low_coupling: f32,
+        pub resonance_position: f32,
+        pub resonance_index: usize,
+        pub resonance_feedback_scale: f32,
+        pub source_modulation_resonance_scale: f32,
+        pub resonance_output_gain: f32,
+    }
+
+    #[repr(C)]
+    pub struct OutputControls {
+        pub filter_common_mode: f32,
+        pub volume_fraction: f32,
+        pub two_voice_volume_gain_offset: f32,
+        pub combined_common_mode_gain: f32,
+        pub pure_bypass_common_mode_gain: f32,
+        pub scaled_filter_common_mode: f32,
+        pub frozen_dac_bias_mode: bool,
+    }
+
+    #[repr(C)]
+    pub struct Controls {
+        pub filter: FilterControls,
+        pub mode_output_gain: f32,
+        pub output: OutputControls,
+    }
+
     #[link(name = "probe", kind = "static")]
     unsafe extern "C" {
         pub fn probe_effective_cutoff(block: *const u8, len: usize) -> u16;
         pub fn probe_write(block: *mut u8, len: usize, register: u8, value: u8);
+        pub fn probe_controls(bundle: *const u8, bundle_len: usize, block: *const u8, len: usize) -> Controls;
         pub fn probe_script(script: *const u8, len: usize) -> Script;
     }
 }
@@ -26,6 +63,7 @@ pub fn compare() -> Vec<(&'static str, Tally)> {
     vec![
         ("cutoff writes, every base, code and value", cutoff(&mut filter)),
         ("routing and mode writes, reset", nibbles(&mut filter)),
+        ("controls after random writes", controls(&mut filter)),
         ("state blocks", blocks()),
         ("scripts", scripts()),
     ]
@@ -99,6 +137,58 @@ fn nibbles(filter: &mut Filter) -> Tally {
         both(&mut tally, filter, 3, (pair >> 8) as u8, [0, pair.into(), 0]);
         if pair % 256 == 0 {
             both(&mut tally, filter, 4, 0, [1, 2, 3]);
+        }
+    }
+    tally
+}
+
+/// Random writes, and after each the Rust's control cache beside the controls worked out afresh from the state.
+fn controls(filter: &mut Filter) -> Tally {
+    let bundle = surface::data("bundle");
+    let (mut tally, mut random) = (Tally::default(), Random(7));
+    for _ in 0..200_000 {
+        let bits = random.bits();
+        let value = (bits >> 8) as u8;
+        match bits % 16 {
+            0..=3 => filter.write_cutoff_low(value),
+            4..=7 => filter.write_cutoff_high(value),
+            8..=11 => filter.write_signal_routing(value),
+            12..=14 => filter.write_mode_and_volume(value),
+            _ => filter.reset(),
+        }
+        let block = block(filter.registers(), [0; 3]);
+        let ours = unsafe { proved::probe_controls(bundle.as_ptr(), bundle.len(), block.as_ptr(), block.len()) };
+        let (filtered, output, theirs) = (ours.filter, ours.output, filter.control());
+        tally.same(filtered.effective_cutoff_index, theirs.effective_cutoff_index);
+        tally.same(filtered.resonance_index, theirs.resonance_index);
+        tally.same(output.frozen_dac_bias_mode, theirs.frozen_dac_bias_mode);
+        let tables = [
+            (filtered.integrator_gain, theirs.integrator_gain),
+            (filtered.input_drive, theirs.input_drive),
+            (filtered.feedback_drive, theirs.feedback_drive),
+        ];
+        for (ours, theirs) in tables {
+            tally.same(ours.map(f32::to_bits), theirs.map(f32::to_bits));
+        }
+        let numbers = [
+            (filtered.damping, theirs.damping),
+            (filtered.source_gain_modulation, theirs.source_gain_modulation),
+            (filtered.high_pass_low_coupling, theirs.high_pass_low_coupling),
+            (filtered.band_pass_low_coupling, theirs.band_pass_low_coupling),
+            (filtered.resonance_position, theirs.resonance_position),
+            (filtered.resonance_feedback_scale, theirs.resonance_feedback_scale),
+            (filtered.source_modulation_resonance_scale, theirs.source_modulation_resonance_scale),
+            (filtered.resonance_output_gain, theirs.resonance_output_gain),
+            (ours.mode_output_gain, theirs.mode_output_gain),
+            (output.filter_common_mode, theirs.filter_common_mode),
+            (output.volume_fraction, theirs.volume_fraction),
+            (output.two_voice_volume_gain_offset, theirs.two_voice_volume_gain_offset),
+            (output.combined_common_mode_gain, theirs.combined_common_mode_gain),
+            (output.pure_bypass_common_mode_gain, theirs.pure_bypass_common_mode_gain),
+            (output.scaled_filter_common_mode, theirs.scaled_filter_common_mode),
+        ];
+        for (ours, theirs) in numbers {
+            tally.same_float(ours, theirs);
         }
     }
     tally

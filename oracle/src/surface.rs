@@ -99,9 +99,9 @@ pub fn compare() -> Vec<(&'static str, Tally)> {
     ]
 }
 
-/// A file of the program `vectors`, which oracle/dump made.
+/// A file of the program `vectors_surface`, which oracle/dump made.
 pub fn data(name: &str) -> Vec<u8> {
-    let path = format!("crates/vectors/data/{name}.bin");
+    let path = format!("crates/vectors_surface/data/{name}.bin");
     std::fs::read(&path).unwrap_or_else(|error| panic!("{path}: {error}"))
 }
 
@@ -112,10 +112,6 @@ fn records<const N: usize>(name: &str) -> Vec<[u32; N]> {
 
 fn bytes(entries: &[f32]) -> impl Iterator<Item = u8> + '_ {
     entries.iter().flat_map(|entry| entry.to_le_bytes())
-}
-
-fn fnv(bytes: &[u8]) -> u64 {
-    bytes.iter().fold(0xcbf2_9ce4_8422_2325, |hash, &byte| (hash ^ u64::from(byte)).wrapping_mul(0x0000_0100_0000_01b3))
 }
 
 /// The Rust's curves in document 01's order.
@@ -145,16 +141,11 @@ fn same_entries(tally: &mut Tally, ours: &[u8], theirs: &[u8]) {
     }
 }
 
-/// The curves of `Filter::new`, entry by entry, and the digests of the file `curves_digest`.
+/// The curves of `Filter::new`, entry by entry.
 fn curves(bundle: &[u8], filter: &Filter) -> Tally {
     let mut tally = Tally::default();
     let ours = built(bundle);
     same_entries(&mut tally, &ours, &curves_of(filter));
-    for [number, low, high] in records("curves_digest") {
-        let at = number as usize * 8_196;
-        let part = ours.get(at..at + 8_196).unwrap_or(&ours);
-        tally.same(fnv(part), u64::from(low) | u64::from(high) << 32);
-    }
     tally
 }
 

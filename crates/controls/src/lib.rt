@@ -10,6 +10,7 @@ use control::FilterRegisters;
 use control::State;
 
 // What `refresh_filter_controls` works out at the effective cutoff and the resonance.
+#[repr(C)]
 pub struct FilterControls {
     pub effective_cutoff_index: usize,
     pub integrator_gain: [f32; 16],
@@ -27,6 +28,7 @@ pub struct FilterControls {
 }
 
 // What `refresh_register_output_state` works out.
+#[repr(C)]
 pub struct OutputControls {
     pub filter_common_mode: f32,
     pub volume_fraction: f32,
@@ -38,6 +40,7 @@ pub struct OutputControls {
 }
 
 // The Rust's `ControlCache`, its fields grouped by the call that works them out.
+#[repr(C)]
 pub struct ControlCache {
     pub filter: FilterControls,
     pub mode_output_gain: f32,

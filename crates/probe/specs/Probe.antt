@@ -20,6 +20,11 @@ writeOf s register value =
     (cond (eqb register 2) (writeSignalRoutingOf s value)
     (cond (eqb register 3) (writeModeAndVolumeOf s value) startingState)))
 
+-- the state of a valid block, and the starting value for any other
+abbrev pub stateOr : Decoded → State
+stateOr (Valid s) = s
+stateOr Invalid = startingState
+
 -- a valid block after a write; an invalid one stays
 abbrev pub writtenOf : Decoded → List ℕ → ℕ → ℕ → List ℕ
 writtenOf (Valid s) block register value = encodeOf (writeOf s register value) block

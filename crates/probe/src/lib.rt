@@ -10,10 +10,12 @@ ghost use Rattle.mixing.specs.Line.{lineOf};
 ghost use Rattle.mixing.specs.Topology.{topologyOf};
 ghost use Rattle.wire.specs.Wire.{putAt};
 ghost use Rattle.control.specs.Block.{decodeOf};
+ghost use Rattle.controls.specs.Controls.{controlsOf};
 ghost use Rattle.script.specs.Script.{checkOf};
-ghost use Rattle.probe.specs.Probe.{writeOf, writtenOf, effectiveOf, scriptOf};
+ghost use Rattle.probe.specs.Probe.{stateOr, writeOf, writtenOf, effectiveOf, scriptOf};
 use control::Decoded;
 use control::State;
+use controls::ControlCache;
 use integrator::Advanced;
 use integrator::Coefficients;
 use integrator::IntegratorState;
@@ -132,6 +134,18 @@ pub extern "C" fn probe_write(block: &mut [u8], register: u8, value: u8)
     if let Decoded::Valid(state) = decoded {
         let next = write(state, register, value);
         next.encode(block);
+    }
+}
+
+// The controls of a valid block's state, and of the starting value for any other.
+#[no_mangle]
+pub extern "C" fn probe_controls(bundle: &[u8], block: &[u8]) -> ControlCache
+    ensures { λ r. ⌜ r ≡ controlsOf (now (bundle .entry)) (stateOr (decodeOf (now (block .entry)))) ⌝ }
+{
+    let decoded = State::decode(block);
+    match decoded {
+        Decoded::Valid(state) => controls::controls_of(bundle, state),
+        Decoded::Invalid => controls::controls_of(bundle, State::new()),
     }
 }
 

@@ -3,9 +3,12 @@ ghost use mathlib.Core.Path.{_≡_};
 ghost use lib.ListN.{length};
 ghost use Rattle.bundle.specs.Opening.{openOf};
 ghost use Rattle.curves.specs.Building.{buildAnswerOf, builtOf};
+ghost use Rattle.ladder.specs.Calls.{solveTridiagonalOf, ladderWeightsOf, ladderValueOf, buildCutoffControlPositionsOf};
 ghost use Rattle.sid_filter.specs.Calls.{runAnswerOf, valueOf, positionOf, positionedOf, sampledOf, curveSampledOf};
 use answers::Answer;
 use curves::LoadPosition;
+use ladder::Level;
+use ladder::Nodes;
 
 // ---- the C interface
 
@@ -125,4 +128,39 @@ pub fn sample_curve(curves: &[u8], curve: u8, input: f32) -> Sampled
         answer,
         value: value_of(answer, value),
     }
+}
+
+// ---- the cutoff DAC's ladder
+
+// Twelve nodes, each linked to its neighbours. Refuses 10, 6.
+pub fn solve_tridiagonal(
+    lower: &[f64; 12],
+    diagonal: &[f64; 12],
+    upper: &[f64; 12],
+    rhs: &[f64; 12],
+) -> Nodes
+    ensures { λ r. ⌜ r ≡ solveTridiagonalOf (now (lower .entry)) (now (diagonal .entry)) (now (upper .entry)) (now (rhs .entry)) ⌝ }
+{
+    ladder::solve_tridiagonal(lower, diagonal, upper, rhs)
+}
+
+// The weight of each of twelve bits. Refuses 10, 6.
+pub fn ladder_weights(two_r_over_r: f64, terminated: bool) -> Nodes
+    ensures { λ r. ⌜ r ≡ ladderWeightsOf «two_r_over_r» terminated ⌝ }
+{
+    ladder::ladder_weights(two_r_over_r, terminated)
+}
+
+// The level of a code below 4,096. Refuses 10, 6.
+pub fn ladder_value(code: usize, weights: &[f64; 12], leakage: f64) -> Level
+    ensures { λ r. ⌜ r ≡ ladderValueOf code (now (weights .entry)) leakage ⌝ }
+{
+    ladder::ladder_value(code, weights, leakage)
+}
+
+// The control position of each cutoff code, as little-endian f32, into 8,192 lent bytes. Refuses 10, 6, and then leaves them.
+pub fn build_cutoff_control_positions(positions: &mut [u8]) -> Answer
+    ensures { λ r. ⌜ (r, now (positions .exit)) ≡ buildCutoffControlPositionsOf (now (positions .entry)) ⌝ }
+{
+    ladder::build_cutoff_control_positions(positions)
 }

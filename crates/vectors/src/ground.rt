@@ -171,12 +171,6 @@ pub(crate) fn narrow(r: &[u8]) -> bool {
 
 // ---- wire
 
-pub(crate) fn word(r: &[u8], bundle: &[u8]) -> bool {
-    let place = size_at(r, 0);
-    (wire::u32_at(r, 4) == wire::u32_at(bundle, place))
-        & has_flag(r, 8, wire::usable_at(bundle, place))
-}
-
 // A read in the first bytes of twelve, where what is not there is 0.
 pub(crate) fn read(r: &[u8]) -> bool {
     let length = size_at(r, 4);

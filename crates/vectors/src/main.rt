@@ -19,12 +19,11 @@ enum Kind {
     Finite,
     ToF32,
     Narrow,
-    Words,
     Reads,
     Puts,
 }
 
-fn agrees(kind: Kind, r: &[u8], bundle: &[u8]) -> bool {
+fn agrees(kind: Kind, r: &[u8]) -> bool {
     match kind {
         Kind::Constants => ground::constant(r),
         Kind::Answers => ground::answer(r),
@@ -36,41 +35,25 @@ fn agrees(kind: Kind, r: &[u8], bundle: &[u8]) -> bool {
         Kind::Finite => ground::finite(r),
         Kind::ToF32 => ground::to_f32(r),
         Kind::Narrow => ground::narrow(r),
-        Kind::Words => ground::word(r, bundle),
         Kind::Reads => ground::read(r),
         Kind::Puts => ground::put(r),
     }
 }
 
-fn main() {
-    let mut bundle = bundle_room();
-    let n = load(b"bundle.bin", &mut bundle);
-    replay_all(&bundle[..n]);
-}
-
 // Each kind with its file and the number of words in its records.
-fn replay_all(bundle: &[u8]) {
-    print(b"bundle ");
-    io::print_decimal(STDOUT_FILENO, bundle.len() as u64);
-    print(b" bytes\n");
-    replay(Kind::Constants, b"constants.bin", 5, bundle);
-    replay(Kind::Answers, b"answers.bin", 9, bundle);
-    replay(Kind::Rounding, b"rounding.bin", 3, bundle);
-    replay(Kind::Round, b"round.bin", 2, bundle);
-    replay(Kind::Truncate, b"truncate.bin", 4, bundle);
-    replay(Kind::Clamp, b"clamp.bin", 4, bundle);
-    replay(Kind::Abs, b"abs.bin", 2, bundle);
-    replay(Kind::Finite, b"finite.bin", 2, bundle);
-    replay(Kind::ToF32, b"to_f32.bin", 3, bundle);
-    replay(Kind::Narrow, b"narrow.bin", 4, bundle);
-    replay(Kind::Words, b"words.bin", 3, bundle);
-    replay(Kind::Reads, b"reads.bin", 9, bundle);
-    replay(Kind::Puts, b"puts.bin", 10, bundle);
-}
-
-// The bundle alone takes 6 of the 8 MiB of stack.
-fn bundle_room() -> [u8; 6127736] {
-    [0; 6127736]
+fn main() {
+    replay(Kind::Constants, b"constants.bin", 5);
+    replay(Kind::Answers, b"answers.bin", 9);
+    replay(Kind::Rounding, b"rounding.bin", 3);
+    replay(Kind::Round, b"round.bin", 2);
+    replay(Kind::Truncate, b"truncate.bin", 4);
+    replay(Kind::Clamp, b"clamp.bin", 4);
+    replay(Kind::Abs, b"abs.bin", 2);
+    replay(Kind::Finite, b"finite.bin", 2);
+    replay(Kind::ToF32, b"to_f32.bin", 3);
+    replay(Kind::Narrow, b"narrow.bin", 4);
+    replay(Kind::Reads, b"reads.bin", 9);
+    replay(Kind::Puts, b"puts.bin", 10);
 }
 
 // More than any file of records has.
@@ -92,13 +75,13 @@ fn load(file: &[u8], bytes: &mut [u8]) -> usize
 }
 
 // Prints the line of one file: also where it is missing, or ends within a record.
-fn replay(kind: Kind, file: &[u8], words: usize, bundle: &[u8])
+fn replay(kind: Kind, file: &[u8], words: usize)
     requires { ⌜ (0 < words) × (words < 64) ⌝ }
 {
     let mut room = record_room();
     let n = load(file, &mut room);
     let size = 4 * words;
-    let agreed = count_agreeing(kind, &room[..n], size, bundle);
+    let agreed = count_agreeing(kind, &room[..n], size);
     print_title(file);
     if n == 0 {
         print(b" missing\n");
@@ -115,14 +98,14 @@ fn replay(kind: Kind, file: &[u8], words: usize, bundle: &[u8])
 }
 
 // How many of the whole records agree.
-fn count_agreeing(kind: Kind, records: &[u8], size: usize, bundle: &[u8]) -> usize
+fn count_agreeing(kind: Kind, records: &[u8], size: usize) -> usize
     requires { ⌜ 0 < size ⌝ }
 {
     let mut agreed = 0;
     let mut at = 0;
     while size <= records.len() - at {
         let end = at + size;
-        if agrees(kind, &records[at..end], bundle) {
+        if agrees(kind, &records[at..end]) {
             agreed += 1;
         }
         at = end;

@@ -6,10 +6,10 @@ use Rattle.vectors.proofs.count_agreeing.Statement.{statement}
 use Rattle.vectors.proofs.count_agreeing.Tie as tie
 
 abbrev Inv-loop : tie.InvT-loop
-Inv-loop kind records size bundle agreed₀ at₀ agreed at = (at ≤ length records) × (agreed ≤ at)
+Inv-loop kind records size agreed₀ at₀ agreed at = (at ≤ length records) × (agreed ≤ at)
 
 abbrev μ-loop : tie.MeasureT-loop
-μ-loop kind records size bundle agreed₀ at₀ agreed at = length records - at
+μ-loop kind records size agreed₀ at₀ agreed at = length records - at
 
 loop-holds : tie.Need-loop-holds Inv-loop μ-loop
 loop-holds c = search needs

@@ -1,0 +1,3 @@
+pub mod Arithmetic
+pub mod Ladder
+pub mod Calls

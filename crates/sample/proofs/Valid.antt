@@ -1,0 +1,155 @@
+-- A sample taken from finite f32 numbers leaves finite f32 numbers, so that a valid state stays valid. Assumes nothing.
+use Prim.Native.Nat.{ℕ}
+use mathlib.Core.Path.{_≡_, refl, sym}
+use mathlib.Core.Bool.{Bool, true, false, cond, _&&_, true≢false}
+use mathlib.Core.List.{List}
+use lib.Dec.{T}
+use lib.Ieee.{Float, binary32, fits}
+use lib.Ieee.Fits.{add-fits, sub-fits}
+use lib.Ieee.Scale.{finite}
+use Rattle.constants.specs.Values as K
+use Rattle.answers.specs.declared.Answer.{Answer}
+use Rattle.answers.specs.declared.Answer.the-variants.{Domain}
+use Rattle.answers.specs.Answers.{isDoneOf}
+use Rattle.floats.specs.Arithmetic.{_⊖_, _⊗_}
+use Rattle.integrator.specs.declared.IntegratorState.{IntegratorState}
+use Rattle.integrator.specs.declared.Coefficients.{Coefficients}
+use Rattle.integrator.specs.declared.Advanced.{Advanced}
+use Rattle.integrator.specs.declared.Substeps.{Substeps}
+use Rattle.integrator.specs.declared.Substeps.the-variants.{Settled, NotFinite}
+use Rattle.integrator.specs.Integrator.{advanceOf, settledOf, substepOf, thenOf, fourSubstepsOf}
+use Rattle.mixing.specs.declared.MixingTopology.{MixingTopology}
+use Rattle.control.specs.Block.{finiteF32, finiteFloats}
+use Rattle.controls.specs.declared.FilterControls.{FilterControls}
+use Rattle.controls.specs.declared.ControlCache.{ControlCache}
+use Rattle.sample.specs.declared.Outputs.{Outputs}
+use Rattle.sample.specs.declared.Sampled.{Sampled}
+use Rattle.sample.specs.declared.Sampled.the-variants.{Taken, Refused}
+use Rattle.sample.specs.Sample.{idleOf, trackedOf, fedOf, summerOf, movedOf, atRestOf, advanceCoreOf, selectOf, judgeSampleOf, takenOf, sampleOf}
+
+-- the numbers of the state after it, where there is one
+unfoldable finiteAfter : Substeps → Bool
+finiteAfter (Settled a) = finiteFloats (a .state)
+finiteAfter NotFinite = true
+
+unfoldable pub finiteTaken : Sampled → Bool
+finiteTaken (Taken outputs s) = finiteFloats s
+finiteTaken (Refused answer) = true
+
+-- ---- the floats
+
+holds : (b : Bool) → T b → b ≡ true
+holds true h = refl
+holds false h = absurd h
+
+-- six tests that hold, three of which fit
+six : (a b c d e f : Bool) {x y z : Bool} → x ≡ true → y ≡ true → z ≡ true → (a && b && c && d && e && f) ≡ true → ((x && a) && (y && b) && (z && c)) ≡ true
+six true true true d e f p q r h = rw (p, q, r) refl
+six true true false d e f p q r h = absurd (true≢false (sym h))
+six true false c d e f p q r h = absurd (true≢false (sym h))
+six false b c d e f p q r h = absurd (true≢false (sym h))
+
+energy-of-three : (a b c d : Bool) → (a && b && (c && d)) ≡ true → c ≡ true
+energy-of-three true true true d h = refl
+energy-of-three true true false d h = absurd (true≢false (sym h))
+energy-of-three true false c d h = absurd (true≢false (sym h))
+energy-of-three false b c d h = absurd (true≢false (sym h))
+
+energy-fits : (i : IntegratorState) → finiteFloats i ≡ true → fits binary32 (i .«filter_source_energy») ≡ true
+unfolding finiteFloats finiteF32
+energy-fits i h = energy-of-three (finiteF32 (i .«band_state»)) (finiteF32 (i .«low_state»)) (fits binary32 (i .«filter_source_energy»)) (finite (i .«filter_source_energy»)) h
+
+-- ---- the substeps
+
+settled-or-not : (a : Advanced) (t : Bool) → (t ≡ true → finiteFloats (a .state) ≡ true) → finiteAfter (cond t (Settled a) NotFinite) ≡ true
+unfolding finiteAfter
+settled-or-not a true h = h refl
+settled-or-not a false h = refl
+
+settled-finite : (a : Advanced) → T (fits binary32 (a .state .«band_state»)) → T (fits binary32 (a .state .«low_state»)) → fits binary32 (a .state .«filter_source_energy») ≡ true → settledOf a ≡ true → finiteFloats (a .state) ≡ true
+unfolding settledOf finiteFloats finiteF32
+settled-finite a p q r h =
+    let s = a .state in
+    let o = a .outputs in
+    six (finite (s .«band_state»)) (finite (s .«low_state»)) (finite (s .«filter_source_energy»)) (finite (o .«high_pass»)) (finite (o .«band_pass»)) (finite (o .«low_pass»))
+    (holds (fits binary32 (s .«band_state»)) p)
+    (holds (fits binary32 (s .«low_state»)) q)
+    r
+    h
+
+module _ (driven : Float) (k : Coefficients) where
+  band-fits : (s : IntegratorState) → T (fits binary32 (advanceOf s driven k .state .«band_state»))
+  unfolding advanceOf
+  band-fits s = sub-fits binary32 _ _
+
+  low-fits : (s : IntegratorState) → T (fits binary32 (advanceOf s driven k .state .«low_state»))
+  unfolding advanceOf
+  low-fits s = sub-fits binary32 _ _
+
+  energy-stays : (s : IntegratorState) → fits binary32 (s .«filter_source_energy») ≡ true → fits binary32 (advanceOf s driven k .state .«filter_source_energy») ≡ true
+  unfolding advanceOf
+  energy-stays s e = e
+
+  substep-kept : (s : IntegratorState) → fits binary32 (s .«filter_source_energy») ≡ true → finiteAfter (substepOf s driven k) ≡ true
+  unfolding substepOf
+  substep-kept s e = settled-or-not (advanceOf s driven k) (settledOf (advanceOf s driven k)) (settled-finite (advanceOf s driven k) (band-fits s) (low-fits s) (energy-stays s e))
+
+  then-kept : (b : Substeps) → finiteAfter b ≡ true → finiteAfter (thenOf b driven k) ≡ true
+  unfolding finiteAfter thenOf
+  then-kept (Settled a) h = substep-kept (a .state) (energy-fits (a .state) h)
+  then-kept NotFinite h = refl
+
+  four-kept : (s : IntegratorState) → fits binary32 (s .«filter_source_energy») ≡ true → finiteAfter (fourSubstepsOf s driven k) ≡ true
+  unfolding fourSubstepsOf
+  four-kept s e = then-kept _ (then-kept _ (then-kept _ (substep-kept s e)))
+
+moved-kept : (f : FilterControls) (s : IntegratorState) (input energy : Float) → fits binary32 energy ≡ true → finiteAfter (movedOf f s input energy) ≡ true
+unfolding movedOf
+moved-kept f s input energy e = four-kept _ _ _ e
+
+-- ---- the sample
+
+either : (t : Bool) (x y : Sampled) → finiteTaken x ≡ true → finiteTaken y ≡ true → finiteTaken (cond t x y) ≡ true
+either true x y p q = p
+either false x y p q = q
+
+state-kept : (o : Outputs) (s : IntegratorState) → finiteFloats s ≡ true → finiteTaken (Taken o s) ≡ true
+unfolding finiteTaken
+state-kept o s h = h
+
+refused-kept : (a : Answer) → finiteTaken (Refused a) ≡ true
+unfolding finiteTaken
+refused-kept a = refl
+
+taken-kept : (c : ControlCache) (count mode : ℕ) (b : Substeps) → finiteAfter b ≡ true → finiteTaken (takenOf c count mode b) ≡ true
+unfolding finiteAfter takenOf
+taken-kept c count mode NotFinite h = refused-kept Domain
+taken-kept c count mode (Settled a) h =
+    let o = a .outputs in
+    let selected = selectOf c count mode o in
+    let outputs : Outputs = record { high = o .«high_pass»; band = o .«band_pass»; low = o .«low_pass»; selected = selected } in
+    either (finite selected) (Taken outputs (a .state)) (Refused Domain) (state-kept outputs (a .state) h) (refused-kept Domain)
+
+rested : (t : Bool) (s : IntegratorState) (b : Substeps) → finiteFloats s ≡ true → finiteAfter b ≡ true → finiteAfter (cond t (atRestOf s) b) ≡ true
+unfolding finiteAfter
+rested true s b p q = p
+rested false s b p q = q
+
+module _ (bundle curves : List ℕ) (t : MixingTopology) (s : IntegratorState) (sum energy : Float) where
+  core-kept : (f : FilterControls) → finiteFloats s ≡ true → finiteAfter (advanceCoreOf bundle curves t f s sum energy) ≡ true
+  unfolding advanceCoreOf
+  core-kept f h =
+      let tracked = s .«filter_source_energy» in
+      let fed = fedOf (t .«filter_input_count») (t .«filter_input_reciprocal») energy in
+      let input = summerOf bundle curves t sum ⊗ K.FILTER-INPUT-GAIN in
+      rested (idleOf (t .«filter_input_count») s) s (movedOf f s input (trackedOf tracked fed)) h
+      (moved-kept f s input (trackedOf tracked fed) (holds (fits binary32 (trackedOf tracked fed)) (add-fits binary32 tracked (K.FILTER-SOURCE-ENERGY-TRACKING ⊗ (fed ⊖ tracked)))))
+
+  -- the state after a sample, where it was taken
+  pub sample-kept : (c : ControlCache) (mode : ℕ) → finiteFloats s ≡ true → finiteTaken (sampleOf bundle curves t c mode s sum energy) ≡ true
+  unfolding sampleOf
+  sample-kept c mode h =
+      let judged = judgeSampleOf bundle curves t s sum energy in
+      let count = t .«filter_output_count» in
+      let moved = advanceCoreOf bundle curves t (c .filter) s sum energy in
+      either (isDoneOf judged) (takenOf c count mode moved) (Refused judged) (taken-kept c count mode moved (core-kept (c .filter) h)) (refused-kept judged)

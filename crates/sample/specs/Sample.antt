@@ -1,0 +1,158 @@
+-- The filter's step for one sample, operation by operation from filter.rs: `summer_transfer`, `advance_filter_core`, `select_filter_output`,
+-- and document 01's refusals 5, 9, 3 and 6 in that order.
+use Prim.Native.Nat.{ℕ, _+_, _%_, min}
+use mathlib.Core.Bool.{Bool, cond, _&&_}
+use mathlib.Core.List.{List}
+use lib.Dec.{eqb, leb, ltb}
+use lib.ListN.{getD}
+use lib.Ieee.{Float, nan, eq}
+use lib.Ieee.Scale.{finite}
+use Rattle.constants.specs.Values as K
+use Rattle.answers.specs.declared.Answer.{Answer}
+use Rattle.answers.specs.declared.Answer.the-variants.{Done, InputNotFinite, Domain, MixerInputs}
+use Rattle.answers.specs.declared.Buffer.the-variants.{Bundle, Curves}
+use Rattle.answers.specs.Answers.{firstOf, unlessOf, isDoneOf}
+use Rattle.floats.specs.Arithmetic.{_⊕_, _⊖_, _⊗_, _⊘_, f32}
+use Rattle.floats.specs.Floats.{ofSmall}
+use Rattle.integrator.specs.declared.IntegratorState.{IntegratorState}
+use Rattle.integrator.specs.declared.FilterOutputs.{FilterOutputs}
+use Rattle.integrator.specs.declared.Coefficients.{Coefficients}
+use Rattle.integrator.specs.declared.Substeps.{Substeps}
+use Rattle.integrator.specs.declared.Substeps.the-variants.{Settled, NotFinite}
+use Rattle.integrator.specs.Integrator.{saturateOf, fourSubstepsOf}
+use Rattle.response.specs.declared.TablePosition.{TablePosition}
+use Rattle.response.specs.Levels.{between, quiescentLevelOf}
+use Rattle.response.specs.Position.{operatingPositionOf}
+use Rattle.mixing.specs.declared.MixingTopology.{MixingTopology}
+use Rattle.bundle.specs.Opening.{judgePlacesOf}
+use Rattle.curves.specs.Sampling.{sampleCurveOf, sampleCurvePlacesOf, restingOutputOf, restingPlacesOf}
+use Rattle.controls.specs.declared.FilterControls.{FilterControls}
+use Rattle.controls.specs.declared.ControlCache.{ControlCache}
+use Rattle.sample.specs.declared.Sampled.{Sampled}
+use Rattle.sample.specs.declared.Sampled.the-variants.{Taken, Refused}
+
+abbrev one : Float
+one = f32 0x3f80_0000
+
+-- ---- `summer_transfer`
+
+-- 2 + filter_input_count, which is the summer's curve. A count above 4, which no routing has, counts as 4.
+abbrev pub summerInputsOf : ℕ → ℕ
+summerInputsOf count = 2 + min count 4
+
+-- (input_sum + 2.0 * quiescent) * summer_input_reciprocal
+abbrev pub averageOf : MixingTopology → Float → Float
+averageOf t sum = (sum ⊕ f32 0x4000_0000 ⊗ quiescentLevelOf) ⊗ t .«summer_input_reciprocal»
+
+unfoldable pub summerOf : List ℕ → List ℕ → MixingTopology → Float → Float
+summerOf bundle curves t sum =
+    let inputs = summerInputsOf (t .«filter_input_count») in
+    sampleCurveOf curves inputs (averageOf t sum) ⊖ restingOutputOf bundle inputs
+
+-- what it reads: two entries of the curve, then four of the surface for the resting output
+unfoldable pub judgeSummerOf : List ℕ → List ℕ → MixingTopology → Float → Answer
+judgeSummerOf bundle curves t sum =
+    let inputs = summerInputsOf (t .«filter_input_count») in
+    firstOf (judgePlacesOf Curves curves (sampleCurvePlacesOf inputs (averageOf t sum))) (judgePlacesOf Bundle bundle (restingPlacesOf inputs))
+
+-- ---- `advance_filter_core`
+
+-- no filter input, and energy and both capacitors equal to 0, of either sign
+abbrev pub idleOf : ℕ → IntegratorState → Bool
+idleOf count s = eqb count 0 && eq (s .«filter_source_energy») (f32 0) && eq (s .«band_state») (f32 0) && eq (s .«low_state») (f32 0)
+
+-- the energy of one input, where there is one
+abbrev pub fedOf : ℕ → Float → Float → Float
+fedOf count reciprocal energy = cond (ltb 0 count) (energy ⊗ reciprocal) energy
+
+-- the tracked energy moves towards what is fed
+abbrev pub trackedOf : Float → Float → Float
+trackedOf tracked fed = tracked ⊕ K.FILTER-SOURCE-ENERGY-TRACKING ⊗ (fed ⊖ tracked)
+
+-- `interpolate`, between the two operating bins
+abbrev pub betweenBins : List Float → TablePosition → Float
+betweenBins values at = between (getD values (at .lower) nan) (getD values (at .upper) nan) (at .fraction)
+
+-- source_gain_modulation * source_energy_drive * source_modulation_resonance_scale
+abbrev pub shiftOf : Float → Float → Float → Float
+shiftOf modulation scale energy = modulation ⊗ (energy ⊘ (energy ⊕ K.FILTER-SOURCE-ENERGY-KNEE)) ⊗ scale
+
+-- a1 = 1.0 / (1.0 + g * (g + damping)), a2 = g * a1, a3 = g * g * a1
+abbrev pub coefficientsOf : Float → Float → Float → Coefficients
+coefficientsOf damping feedback-drive g =
+    let a1 = one ⊘ (one ⊕ g ⊗ (g ⊕ damping)) in
+    record { damping = damping; «feedback_drive» = feedback-drive; a1 = a1; a2 = g ⊗ a1; a3 = g ⊗ g ⊗ a1 }
+
+-- From the filter's input and the new energy: the bins by the old capacitors, then four substeps from them.
+unfoldable pub movedOf : FilterControls → IntegratorState → Float → Float → Substeps
+movedOf f s input energy =
+    let at = operatingPositionOf input (s .«band_state») (s .«low_state») in
+    let feedback-drive = betweenBins (f .«feedback_drive») at ⊗ f .«resonance_feedback_scale» in
+    let input-drive = betweenBins (f .«input_drive») at in
+    let g = betweenBins (f .«integrator_gain») at ⊕ shiftOf (f .«source_gain_modulation») (f .«source_modulation_resonance_scale») energy in
+    fourSubstepsOf (record { «band_state» = s .«band_state»; «low_state» = s .«low_state»; «filter_source_energy» = energy })
+    (saturateOf input input-drive)
+    (coefficientsOf (f .damping) feedback-drive g)
+
+-- idle: FilterOutputs::default(), and the state kept
+abbrev pub atRestOf : IntegratorState → Substeps
+atRestOf s = Settled (record { outputs = record { «high_pass» = f32 0; «band_pass» = f32 0; «low_pass» = f32 0 }; state = s })
+
+unfoldable pub advanceCoreOf : List ℕ → List ℕ → MixingTopology → FilterControls → IntegratorState → Float → Float → Substeps
+advanceCoreOf bundle curves t f s sum energy =
+    cond (idleOf (t .«filter_input_count») s) (atRestOf s)
+    (movedOf f s (summerOf bundle curves t sum ⊗ K.FILTER-INPUT-GAIN)
+    (trackedOf (s .«filter_source_energy») (fedOf (t .«filter_input_count») (t .«filter_input_reciprocal») energy)))
+
+-- ---- `select_filter_output`
+
+-- an output at the mixer: about the quiescent level, with its amplifier's polarity
+abbrev pub levelOf : Float → ℕ → Float
+levelOf value i = quiescentLevelOf ⊕ value ⊗ getD K.FILTER-MODE-POLARITY i nan
+
+-- by the mode's lower three bits
+unfoldable pub modeSumOf : ℕ → Float → Float → Float → Float
+modeSumOf m low band high =
+    cond (eqb m 0) (f32 0)
+    (cond (eqb m 1) low
+    (cond (eqb m 2) band
+    (cond (eqb m 3) (low ⊕ band)
+    (cond (eqb m 4) high
+    (cond (eqb m 5) (low ⊕ high)
+    (cond (eqb m 6) (band ⊕ high)
+    (low ⊕ band ⊕ high)))))))
+
+unfoldable pub mixedOf : FilterControls → ℕ → FilterOutputs → Float
+mixedOf f mode o =
+    modeSumOf (mode % 8) (levelOf (o .«low_pass») 0)
+    (levelOf (o .«band_pass» ⊕ f .«band_pass_low_coupling» ⊗ o .«low_pass») 1)
+    (levelOf (o .«high_pass» ⊕ f .«high_pass_low_coupling» ⊗ o .«low_pass») 2)
+
+-- the gain acts about the outputs' level at rest
+unfoldable pub selectOf : ControlCache → ℕ → ℕ → FilterOutputs → Float
+selectOf c count mode o =
+    let resting = quiescentLevelOf ⊗ ofSmall count in
+    resting ⊕ (mixedOf (c .filter) mode o ⊖ resting) ⊗ c .«mode_output_gain» ⊗ c .filter .«resonance_output_gain»
+
+-- ---- the sample
+
+-- 5, 9, and 3 where the sample is not idle
+unfoldable pub judgeSampleOf : List ℕ → List ℕ → MixingTopology → IntegratorState → Float → Float → Answer
+judgeSampleOf bundle curves t s sum energy =
+    firstOf (unlessOf (finite sum && finite energy) InputNotFinite)
+    (firstOf (unlessOf (leb (t .«mixer_input_count») 7) MixerInputs)
+    (cond (idleOf (t .«filter_input_count») s) Done (judgeSummerOf bundle curves t sum)))
+
+-- the outputs with the selected value, or 6
+unfoldable pub takenOf : ControlCache → ℕ → ℕ → Substeps → Sampled
+takenOf c count mode NotFinite = Refused Domain
+takenOf c count mode (Settled a) =
+    let selected = selectOf c count mode (a .outputs) in
+    cond (finite selected)
+    (Taken (record { high = a .outputs .«high_pass»; band = a .outputs .«band_pass»; low = a .outputs .«low_pass»; selected = selected }) (a .state))
+    (Refused Domain)
+
+unfoldable pub sampleOf : List ℕ → List ℕ → MixingTopology → ControlCache → ℕ → IntegratorState → Float → Float → Sampled
+sampleOf bundle curves t c mode s sum energy =
+    let judged = judgeSampleOf bundle curves t s sum energy in
+    cond (isDoneOf judged) (takenOf c (t .«filter_output_count») mode (advanceCoreOf bundle curves t (c .filter) s sum energy)) (Refused judged)

@@ -1,0 +1,320 @@
+// The filter's step for one sample: the summer, the nonlinear core, and the selection of its outputs.
+ghost use mathlib.Core.Path.{_≡_};
+ghost use Prim.Native.Nat.{_≤_};
+ghost use Rattle.sample.specs.Sample as S;
+use answers::Answer;
+use controls::ControlCache;
+use controls::FilterControls;
+use integrator::Coefficients;
+use integrator::FilterOutputs;
+use integrator::IntegratorState;
+use integrator::Substeps;
+use mixing::MixingTopology;
+use response::TablePosition;
+
+// What a sample gives: the core's three outputs and what the mode selects of them.
+#[repr(C)]
+pub struct Outputs {
+    pub high: f32,
+    pub band: f32,
+    pub low: f32,
+    pub selected: f32,
+}
+
+// A sample that was taken, with the state after it, or one that was refused, which leaves the state as it was.
+pub enum Sampled {
+    Taken {
+        outputs: Outputs,
+        state: IntegratorState,
+    },
+    Refused {
+        answer: Answer,
+    },
+}
+
+// ---- summer_transfer
+
+// The filter's inputs with the two that are always there; the summer has no curve for more than six.
+fn summer_inputs(count: usize) -> u8
+    ensures { λ r. ⌜ r ≡ S.summerInputsOf count ⌝ }
+{
+    if count < 4 { 2 + (count as u8) } else { 6 }
+}
+
+// The level of one input, with the two that are always there at rest.
+fn average(topology: MixingTopology, sum: f32) -> f32
+    ensures { λ r. ⌜ r ≡ S.averageOf topology sum ⌝ }
+{
+    (sum + 2.0 * response::filter_mode_quiescent_level()) * topology.summer_input_reciprocal
+}
+
+// The summer's output above its output at rest.
+pub fn summer_transfer(
+    bundle: &[u8],
+    curves: &[u8],
+    topology: MixingTopology,
+    input_sum: f32,
+) -> f32
+    ensures { λ r. ⌜ r ≡ S.summerOf (now (bundle .entry)) (now (curves .entry)) topology «input_sum» ⌝ }
+{
+    let inputs = summer_inputs(topology.filter_input_count);
+    let average = average(topology, input_sum);
+    curves::sample_curve(curves, inputs, average)
+        - curves::summer_resting_output(bundle, inputs as usize)
+}
+
+// The entries that it reads, in its order.
+pub fn judge_summer(
+    bundle: &[u8],
+    curves: &[u8],
+    topology: MixingTopology,
+    input_sum: f32,
+) -> Answer
+    ensures { λ r. ⌜ r ≡ S.judgeSummerOf (now (bundle .entry)) (now (curves .entry)) topology «input_sum» ⌝ }
+{
+    let inputs = summer_inputs(topology.filter_input_count);
+    let average = average(topology, input_sum);
+    let curve = curves::judge_sample_curve(curves, inputs, average);
+    answers::first(
+        curve,
+        curves::judge_summer_resting_output(bundle, inputs as usize),
+    )
+}
+
+// ---- advance_filter_core
+
+fn is_idle(count: usize, s: IntegratorState) -> bool
+    ensures { λ r. ⌜ r ≡ S.idleOf count s ⌝ }
+{
+    (count == 0) & (s.filter_source_energy == 0.0) & (s.band_state == 0.0) & (s.low_state == 0.0)
+}
+
+fn fed_energy(count: usize, reciprocal: f32, energy: f32) -> f32
+    ensures { λ r. ⌜ r ≡ S.fedOf count reciprocal energy ⌝ }
+{
+    if 0 < count {
+        energy * reciprocal
+    } else {
+        energy
+    }
+}
+
+fn tracked_energy(tracked: f32, fed: f32) -> f32
+    ensures { λ r. ⌜ r ≡ S.trackedOf tracked fed ⌝ }
+{
+    tracked + constants::FILTER_SOURCE_ENERGY_TRACKING * (fed - tracked)
+}
+
+fn between_bins(values: [f32; 16], at: TablePosition) -> f32
+    requires { ⌜ (at .lower ≤ 15) × (at .upper ≤ 15) ⌝ }
+    ensures { λ r. ⌜ r ≡ S.betweenBins values at ⌝ }
+{
+    let lower = at.lower;
+    let upper = at.upper;
+    response::interpolate(values[lower], values[upper], at.fraction)
+}
+
+// The source's load on the pole.
+fn shift(modulation: f32, scale: f32, energy: f32) -> f32
+    ensures { λ r. ⌜ r ≡ S.shiftOf modulation scale energy ⌝ }
+{
+    modulation * (energy / (energy + constants::FILTER_SOURCE_ENERGY_KNEE)) * scale
+}
+
+// The trapezoidal rule's factors for an integrator gain.
+fn coefficients(damping: f32, feedback_drive: f32, g: f32) -> Coefficients
+    ensures { λ r. ⌜ r ≡ S.coefficientsOf damping «feedback_drive» g ⌝ }
+{
+    let a1 = 1.0 / (1.0 + g * (g + damping));
+    Coefficients {
+        damping,
+        feedback_drive,
+        a1,
+        a2: g * a1,
+        a3: g * g * a1,
+    }
+}
+
+// The core at an input and its new energy.
+fn moved(f: FilterControls, s: IntegratorState, input: f32, energy: f32) -> Substeps
+    ensures { λ r. ⌜ r ≡ S.movedOf f s input energy ⌝ }
+{
+    let feedback_drives = f.feedback_drive;
+    let input_drives = f.input_drive;
+    let gains = f.integrator_gain;
+    let at = response::operating_position(input, s.band_state, s.low_state);
+    let feedback_drive = between_bins(feedback_drives, at) * f.resonance_feedback_scale;
+    let input_drive = between_bins(input_drives, at);
+    let shift = shift(
+        f.source_gain_modulation,
+        f.source_modulation_resonance_scale,
+        energy,
+    );
+    let g = between_bins(gains, at) + shift;
+    let k = coefficients(f.damping, feedback_drive, g);
+    let from = IntegratorState {
+        band_state: s.band_state,
+        low_state: s.low_state,
+        filter_source_energy: energy,
+    };
+    from.four_substeps(IntegratorState::saturate(input, input_drive), k)
+}
+
+// The core at rest stays as it is and reads nothing.
+fn at_rest(s: IntegratorState) -> Substeps
+    ensures { λ r. ⌜ r ≡ S.atRestOf s ⌝ }
+{
+    Substeps::Settled(integrator::Advanced {
+        outputs: FilterOutputs {
+            high_pass: 0.0,
+            band_pass: 0.0,
+            low_pass: 0.0,
+        },
+        state: s,
+    })
+}
+
+fn advance_filter_core(
+    bundle: &[u8],
+    curves: &[u8],
+    topology: MixingTopology,
+    f: FilterControls,
+    s: IntegratorState,
+    input_sum: f32,
+    source_energy: f32,
+) -> Substeps
+    ensures { λ r. ⌜ r ≡ S.advanceCoreOf (now (bundle .entry)) (now (curves .entry)) topology f s «input_sum» «source_energy» ⌝ }
+{
+    if is_idle(topology.filter_input_count, s) {
+        return at_rest(s);
+    }
+    let fed = fed_energy(
+        topology.filter_input_count,
+        topology.filter_input_reciprocal,
+        source_energy,
+    );
+    let energy = tracked_energy(s.filter_source_energy, fed);
+    let input = summer_transfer(bundle, curves, topology, input_sum) * constants::FILTER_INPUT_GAIN;
+    moved(f, s, input, energy)
+}
+
+// ---- select_filter_output
+
+// By the mode's lower three bits: 1 low, 2 band, 4 high.
+fn mode_sum(m: u8, low: f32, band: f32, high: f32) -> f32
+    ensures { λ r. ⌜ r ≡ S.modeSumOf m low band high ⌝ }
+{
+    match m {
+        0 => 0.0,
+        1 => low,
+        2 => band,
+        3 => low + band,
+        4 => high,
+        5 => low + high,
+        6 => band + high,
+        _ => low + band + high,
+    }
+}
+
+fn mixed(f: FilterControls, mode: u8, o: FilterOutputs) -> f32
+    ensures { λ r. ⌜ r ≡ S.mixedOf f mode o ⌝ }
+{
+    let quiescent = response::filter_mode_quiescent_level();
+    let polarity = constants::mode_polarity();
+    let low = quiescent + o.low_pass * polarity[0];
+    let band = quiescent + (o.band_pass + f.band_pass_low_coupling * o.low_pass) * polarity[1];
+    let high = quiescent + (o.high_pass + f.high_pass_low_coupling * o.low_pass) * polarity[2];
+    mode_sum(mode % 8, low, band, high)
+}
+
+// The selected value, for a count of selected outputs.
+fn select_filter_output(c: ControlCache, count: usize, mode: u8, o: FilterOutputs) -> f32
+    ensures { λ r. ⌜ r ≡ S.selectOf c count mode o ⌝ }
+{
+    let f = c.filter;
+    let resting = response::filter_mode_quiescent_level() * floats::of_usize(count);
+    resting + (mixed(f, mode, o) - resting) * c.mode_output_gain * f.resonance_output_gain
+}
+
+// ---- the sample
+
+// Whether the sum and the energy are finite, the mixer's inputs at most 7, and the entries that are read usable.
+fn judge_sample(
+    bundle: &[u8],
+    curves: &[u8],
+    topology: MixingTopology,
+    s: IntegratorState,
+    input_sum: f32,
+    source_energy: f32,
+) -> Answer
+    ensures { λ r. ⌜ r ≡ S.judgeSampleOf (now (bundle .entry)) (now (curves .entry)) topology s «input_sum» «source_energy» ⌝ }
+{
+    if floats::is_finite(input_sum) & floats::is_finite(source_energy) {
+        if topology.mixer_input_count <= 7 {
+            if is_idle(topology.filter_input_count, s) {
+                return Answer::Done;
+            }
+            return judge_summer(bundle, curves, topology, input_sum);
+        }
+        return Answer::MixerInputs;
+    }
+    Answer::InputNotFinite
+}
+
+// The outputs with the selected value beside them, where all are finite.
+fn taken(c: ControlCache, count: usize, mode: u8, moved: Substeps) -> Sampled
+    ensures { λ r. ⌜ r ≡ S.takenOf c count mode moved ⌝ }
+{
+    let Substeps::Settled(a) = moved else {
+        return Sampled::Refused {
+            answer: Answer::Domain,
+        };
+    };
+    let o = a.outputs;
+    let state = a.state;
+    let selected = select_filter_output(c, count, mode, o);
+    if floats::is_finite(selected) {
+        return Sampled::Taken {
+            outputs: Outputs {
+                high: o.high_pass,
+                band: o.band_pass,
+                low: o.low_pass,
+                selected,
+            },
+            state,
+        };
+    }
+    Sampled::Refused {
+        answer: Answer::Domain,
+    }
+}
+
+// One sample of the filter on kept parts as they are handed in.
+pub fn sample(
+    bundle: &[u8],
+    curves: &[u8],
+    topology: MixingTopology,
+    controls: ControlCache,
+    mode: u8,
+    state: IntegratorState,
+    input_sum: f32,
+    source_energy: f32,
+) -> Sampled
+    ensures { λ r. ⌜ r ≡ S.sampleOf (now (bundle .entry)) (now (curves .entry)) topology controls mode state «input_sum» «source_energy» ⌝ }
+{
+    let judged = judge_sample(bundle, curves, topology, state, input_sum, source_energy);
+    if answers::is_done(judged) {
+        let f = controls.filter;
+        let moved = advance_filter_core(
+            bundle,
+            curves,
+            topology,
+            f,
+            state,
+            input_sum,
+            source_energy,
+        );
+        return taken(controls, topology.filter_output_count, mode, moved);
+    }
+    Sampled::Refused { answer: judged }
+}
