@@ -1,5 +1,7 @@
 use Rattle.curves.specs.Sampling.{samplePlacesOf, cornersOf}
 use Rattle.curves.proofs.Laws.{load-lower, load-upper, input-lower, input-upper}
+use Prim.Native.Nat.{_≤_}
+use native.Mathlib.Omega.{arith}
 use borrow.Author.Needs.{needs}
 use Rattle.curves.proofs.sample_places.Statement.{statement}
 use Rattle.curves.proofs.sample_places.Tie as tie
@@ -10,17 +12,24 @@ load-position-requires c κs = search needs
 input-position-requires : tie.Need-input-position-requires
 input-position-requires c κs = search needs
 
+-- the bases and the indexes lie in the surface
+inside : (c : tie.After-input-position)
+    → (c .before .load-position .result .«lower_base» ≤ 294912) × (c .before .load-position .result .«upper_base» ≤ 294912) × (c .input-position .result .lower ≤ 2047) × (c .input-position .result .upper ≤ 2047)
+inside c =
+    let a = c .before .before .args in
+    rw (c .before .load-position .ensures, c .input-position .ensures) (load-lower (a .conductance), load-upper (a .conductance), input-lower (a .input), input-upper (a .input))
+
 table-place-requires : tie.Need-table-place-requires
-table-place-requires c κs = let z = c .before in (rw (z .load-position .ensures) (load-lower (z .before .args .conductance)), rw (c .input-position .ensures) (input-lower (z .before .args .input)))
+table-place-requires c κs = omega (arith, inside c)
 
 table-place-requires-2 : tie.Need-table-place-requires-2
-table-place-requires-2 c κs = let z = c .before .before in (rw (z .load-position .ensures) (load-lower (z .before .args .conductance)), rw (c .before .input-position .ensures) (input-upper (z .before .args .input)))
+table-place-requires-2 c κs = omega (arith, inside (c .before))
 
 table-place-requires-3 : tie.Need-table-place-requires-3
-table-place-requires-3 c κs = let z = c .before .before .before in (rw (z .load-position .ensures) (load-upper (z .before .args .conductance)), rw (c .before .before .input-position .ensures) (input-lower (z .before .args .input)))
+table-place-requires-3 c κs = omega (arith, inside (c .before .before))
 
 table-place-requires-4 : tie.Need-table-place-requires-4
-table-place-requires-4 c κs = let z = c .before .before .before .before in (rw (z .load-position .ensures) (load-upper (z .before .args .conductance)), rw (c .before .before .before .input-position .ensures) (input-upper (z .before .args .input)))
+table-place-requires-4 c κs = omega (arith, inside (c .before .before .before))
 
 returns : tie.Need-returns
 unfolding samplePlacesOf cornersOf
