@@ -97,11 +97,8 @@ fn advance() -> Tally {
     let (mut tally, mut random) = (Tally::default(), Random(2));
     for _ in 0..250_000 {
         let mut theirs = IntegratorState { band_state: random.float(), low_state: random.float(), filter_source_energy: random.float() };
-        let mut ours = proved::State {
-            band_state: theirs.band_state,
-            low_state: theirs.low_state,
-            filter_source_energy: theirs.filter_source_energy,
-        };
+        let mut ours =
+            proved::State { band_state: theirs.band_state, low_state: theirs.low_state, filter_source_energy: theirs.filter_source_energy };
         let driven = random.float();
         let k = proved::Coefficients {
             damping: random.float(),
