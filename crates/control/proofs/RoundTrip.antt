@@ -82,7 +82,7 @@ zero-at : (s : State) → byteAt (blockOf s) 11 ≡ 0
 unfolding blockOf bytesOf
 zero-at s = refl
 
-decode-block : (s : State) → validOf s ≡ true → decodeOf (blockOf s) ≡ Valid s
+pub decode-block : (s : State) → validOf s ≡ true → decodeOf (blockOf s) ≡ Valid s
 unfolding decodeOf
 decode-block s h = rw (block-long s, pending-at s, zero-at s, fields-block s h, flag-le (s .registers .«cutoff_low_pending»), h)
 

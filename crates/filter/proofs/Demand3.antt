@@ -243,7 +243,7 @@ module _ (bundle curves : List ℕ) (s : State) (sum energy : Float) (lent : jud
 
 -- ---- any event
 
-pub Steps : List ℕ → List ℕ → Core → Event → Type 0
+abbrev pub Steps : List ℕ → List ℕ → Core → Event → Type 0
 Steps bundle curves k e = (shown e (fedOf bundle curves k e) ≡ plainStep bundle curves (k .state) e) × Kept bundle (fedOf bundle curves k e .core)
 
 module _ (bundle curves : List ℕ) (lent : judgeLentOf bundle curves ≡ Done) where
@@ -252,7 +252,6 @@ module _ (bundle curves : List ℕ) (lent : judgeLentOf bundle curves ≡ Done) 
   opened = first-done (checkOf bundle) _ lent .0
 
   pub steps : (k : Core) (e : Event) → Kept bundle k → Steps bundle curves k e
-  unfolding Steps
   steps k (CutoffLow v) kept = low-changes bundle k opened kept v
   steps k (CutoffHigh v) kept = high-changes bundle k opened kept v
   steps k (Routing v) kept = routing-changes bundle k opened kept v
@@ -269,7 +268,7 @@ module _ (bundle curves : List ℕ) (lent : judgeLentOf bundle curves ≡ Done) 
     pub fresh : AllFresh bundle (coreTrace bundle curves k es)
 
   pub agrees : (k : Core) (es : List Event) → Kept bundle k → Agrees k es
-  unfolding coreTrace plainTrace shownAll Steps
+  unfolding coreTrace plainTrace shownAll
   agrees k [] kept = record { same = refl; fresh = tt }
   agrees k (e ∷ es) kept =
       let r = fedOf bundle curves k e in

@@ -62,6 +62,14 @@ fn finite_gains(controls: ControlCache) -> bool
     controls::finite_filter(filter) & floats::is_finite(controls.mode_output_gain)
 }
 
+// The topology of a state.
+fn routed(state: State) -> MixingTopology
+    ensures { λ r. ⌜ r ≡ F.freshTopologyOf state ⌝ }
+{
+    let registers = state.registers;
+    MixingTopology::update(registers.routing, registers.mode)
+}
+
 // ---- what an event hands back
 
 fn settled(answer: Answer, old: Core, new: Core) -> Written
@@ -73,13 +81,16 @@ fn settled(answer: Answer, old: Core, new: Core) -> Written
     Written { answer, core: old }
 }
 
-fn judged(answer: Answer, old: Core, written: Written) -> Written
-    ensures { λ r. ⌜ r ≡ F.judgedOf answer old written ⌝ }
+fn judged(answer: Answer, taken: Core, written: Written) -> Written
+    ensures { λ r. ⌜ r ≡ F.judgedOf answer taken written ⌝ }
 {
     if answers::is_done(answer) {
         return written;
     }
-    Written { answer, core: old }
+    Written {
+        answer,
+        core: taken,
+    }
 }
 
 fn quiet(written: Written) -> Fed
@@ -124,8 +135,6 @@ impl Core {
     pub fn start(bundle: &[u8], curves: &[u8], state: State) -> Written
         ensures { λ r. ⌜ r ≡ F.startedOf (now (bundle .entry)) (now (curves .entry)) state ⌝ }
     {
-        let registers = state.registers;
-        let topology = MixingTopology::update(registers.routing, registers.mode);
         let fresh = controls::refresh(bundle, state);
         let refreshed = fresh.answer;
         let controls = fresh.controls;
@@ -134,7 +143,7 @@ impl Core {
             answer: answers::first(judge_lent(bundle, curves), judged),
             core: Core {
                 state,
-                topology,
+                topology: routed(state),
                 controls,
             },
         }
@@ -186,7 +195,7 @@ impl Core {
     {
         let registers = state.registers;
         let effective = state.effective_cutoff();
-        let topology = MixingTopology::update(registers.routing, registers.mode);
+        let topology = routed(state);
         let mut controls = self.controls;
         let gain = controls::refresh_mode_output_gain(bundle, registers, effective);
         let output = controls::refresh_register_output_state(registers);
@@ -240,8 +249,7 @@ impl Core {
     {
         let state = self.state;
         let next = state.write_signal_routing(value);
-        let registers = next.registers;
-        let topology = MixingTopology::update(registers.routing, registers.mode);
+        let topology = routed(next);
         judged(
             self.judge_write(bundle),
             self,
@@ -262,11 +270,12 @@ impl Core {
     pub fn reset(self, bundle: &[u8]) -> Written
         ensures { λ r. ⌜ r ≡ F.resetOf (now (bundle .entry)) self ⌝ }
     {
-        let topology = MixingTopology::update(0, 0);
+        let start = State::new();
+        let topology = routed(start);
         judged(
             bundle::check(bundle),
             self,
-            self.refreshed(bundle, State::new(), topology),
+            self.refreshed(bundle, start, topology),
         )
     }
 

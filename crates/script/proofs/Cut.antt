@@ -76,11 +76,11 @@ module _ (bs : List (List ℕ)) (few : length bs ≤ 65536) where
     unfolding scriptOf
     slices-is = rw (count-is, drop-at (bytesOf 4 (length bs) ++ bytesOf 4 8) (joined bs) 8 header-long) (slices-joined bs h)
 
-    piece-well-formed : wellFormed (scriptOf bs) ≡ true
+    pub piece-well-formed : wellFormed (scriptOf bs) ≡ true
     unfolding wellFormed headerOk
     piece-well-formed = rw (slices-is, count-is, offset-is, script-long, le-leb (length bs) 65536 few, eq-eqb (8 + 12 * length bs) (8 + 12 * length bs) refl) h
 
-    piece-events : eventsOf (scriptOf bs) ≡ eventsIn bs
+    pub piece-events : eventsOf (scriptOf bs) ≡ eventsIn bs
     piece-events = ap eventsIn slices-is
 
 -- ---- any way of cutting
@@ -161,6 +161,10 @@ header s h =
       long = eqb-true (length s) (8 + 12 * countOf s) (q .1);
       readable = r .1;
     }
+
+-- At most 65,536 slices.
+pub slices-few : (s : List ℕ) → wellFormed s ≡ true → length (slicesOf s) ≤ 65536
+slices-few s h = omega (arith, length-slices (countOf s) (drop 8 s), header s h .few)
 
 -- As many events as its count says.
 pub events-count : (s : List ℕ) → wellFormed s ≡ true → length (eventsOf s) ≡ countOf s

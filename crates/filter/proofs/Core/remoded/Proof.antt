@@ -6,8 +6,8 @@ use Rattle.filter.proofs.Core.remoded.Tie as tie
 effective-cutoff-requires : tie.Need-effective-cutoff-requires
 effective-cutoff-requires c κs = search needs
 
-update-requires : tie.Need-update-requires
-update-requires c κs = search needs
+routed-requires : tie.Need-routed-requires
+routed-requires c κs = search needs
 
 refresh-mode-output-gain-requires : tie.Need-refresh-mode-output-gain-requires
 refresh-mode-output-gain-requires c κs = search needs
@@ -35,17 +35,14 @@ settled-requires c κs = search needs
 
 returns : tie.Need-returns
 unfolding remodedOf
-returns c =
-    let z = c .before .before .before .before in
-    let y = z .before .before .before in
-    simp (c .settled .ensures, c .before .first .ensures, c .before .before .judge-mode .ensures, c .before .before .before .unless .ensures, z .finite-output .ensures, z .before .is-finite .ensures, z .before .before .refresh-register-output-state .ensures, y .refresh-mode-output-gain .ensures, y .before .before .update .ensures, y .before .before .before .effective-cutoff .ensures)
+returns c = simp (c .settled .ensures, c .before .first .ensures, c .before .before .judge-mode .ensures, c .before .before .before .unless .ensures, c .before .before .before .before .finite-output .ensures, c .before .before .before .before .before .is-finite .ensures, c .before .before .before .before .before .before .refresh-register-output-state .ensures, c .before .before .before .before .before .before .before .refresh-mode-output-gain .ensures, c .before .before .before .before .before .before .before .before .before .routed .ensures, c .before .before .before .before .before .before .before .before .before .before .effective-cutoff .ensures)
 
 pub remoded-spec : {M : Type 1} → statement M
 remoded-spec =
     tie.close
     (tie.spec
     effective-cutoff-requires
-    update-requires
+    routed-requires
     refresh-mode-output-gain-requires
     refresh-register-output-state-requires
     is-finite-requires
