@@ -111,13 +111,13 @@ fn quiet(written: Written) -> Fed
 }
 
 // The core after a sample: the registers stay, and so does all that is kept.
-fn after(old: Core, sampled: Sampled) -> Fed
-    ensures { λ r. ⌜ r ≡ F.afterOf old sampled ⌝ }
+fn after(before: Core, sampled: Sampled) -> Fed
+    ensures { λ r. ⌜ r ≡ F.afterOf before sampled ⌝ }
 {
     match sampled {
         Sampled::Taken { outputs, state } => {
-            let mut core = old;
-            let mut next = old.state;
+            let mut core = before;
+            let mut next = before.state;
             next.integrator = state;
             core.state = next;
             Fed {
@@ -126,7 +126,10 @@ fn after(old: Core, sampled: Sampled) -> Fed
                 core,
             }
         }
-        Sampled::Refused { answer } => quiet(Written { answer, core: old }),
+        Sampled::Refused { answer } => quiet(Written {
+            answer,
+            core: before,
+        }),
     }
 }
 
