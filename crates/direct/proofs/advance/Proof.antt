@@ -41,4 +41,17 @@ returns c =
     simp (c .advanced-of .ensures, c .before .first .ensures, c .before .before .unless2 .ensures, c .before .before .before .unless .ensures, y .finite-outputs .ensures, y .before .finite-state2 .ensures, y .before .before .finite-coefficients .ensures, y .before .before .before .is-finite .ensures, z .finite-state .ensures, z .before .before .before .advance .ensures)
 
 pub advance-spec : {M : Type 1} → statement M
-advance-spec = tie.close (tie.spec advance-requires finite-state-requires is-finite-requires finite-coefficients-requires finite-state-requires-2 finite-outputs-requires unless-requires unless-requires-2 first-requires advanced-of-requires returns)
+advance-spec =
+    tie.close
+    (tie.spec
+    advance-requires
+    finite-state-requires
+    is-finite-requires
+    finite-coefficients-requires
+    finite-state-requires-2
+    finite-outputs-requires
+    unless-requires
+    unless-requires-2
+    first-requires
+    advanced-of-requires
+    returns)

@@ -38,4 +38,16 @@ returns c =
     simp (c .finished .ensures, c .before .first2 .ensures, c .before .before .check .ensures, c .before .before .before .first .ensures, y .judge-loading .ensures, y .before .unless .ensures, y .before .before .filter-mode-output-gain .ensures, y .before .before .before .entry-at .ensures, z .highpass-loading-place .ensures)
 
 pub filter-mode-output-gain-spec : {M : Type 1} → statement M
-filter-mode-output-gain-spec = tie.close (tie.spec highpass-loading-place-requires entry-at-requires filter-mode-output-gain-requires unless-requires judge-loading-requires first-requires check-requires first-requires-2 finished-requires returns)
+filter-mode-output-gain-spec =
+    tie.close
+    (tie.spec
+    highpass-loading-place-requires
+    entry-at-requires
+    filter-mode-output-gain-requires
+    unless-requires
+    judge-loading-requires
+    first-requires
+    check-requires
+    first-requires-2
+    finished-requires
+    returns)

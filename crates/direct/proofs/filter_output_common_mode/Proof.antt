@@ -17,4 +17,10 @@ unfolding commonModeCallOf
 returns c = simp (c .finished .ensures, c .before .filter-output-common-mode .ensures, c .before .before .unless .ensures)
 
 pub filter-output-common-mode-spec : {M : Type 1} → statement M
-filter-output-common-mode-spec = tie.close (tie.spec unless-requires filter-output-common-mode-requires finished-requires returns)
+filter-output-common-mode-spec =
+    tie.close
+    (tie.spec
+    unless-requires
+    filter-output-common-mode-requires
+    finished-requires
+    returns)

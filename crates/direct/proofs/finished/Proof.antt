@@ -25,4 +25,12 @@ returns-2 c =
     simp (← z .before .before .is-finite .ensures, ← z .before .unless .ensures, ← z .first .ensures, ← c .before .is-done .ensures, c .if1 .left)
 
 pub finished-spec : {M : Type 1} → statement M
-finished-spec = tie.close (tie.spec is-finite-requires unless-requires first-requires is-done-requires returns returns-2)
+finished-spec =
+    tie.close
+    (tie.spec
+    is-finite-requires
+    unless-requires
+    first-requires
+    is-done-requires
+    returns
+    returns-2)

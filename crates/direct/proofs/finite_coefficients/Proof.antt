@@ -23,4 +23,12 @@ returns c =
     simp (c .is-finite5 .ensures, c .before .is-finite4 .ensures, c .before .before .is-finite3 .ensures, c .before .before .before .is-finite2 .ensures, y .is-finite .ensures)
 
 pub finite-coefficients-spec : {M : Type 1} → statement M
-finite-coefficients-spec = tie.close (tie.spec is-finite-requires is-finite-requires-2 is-finite-requires-3 is-finite-requires-4 is-finite-requires-5 returns)
+finite-coefficients-spec =
+    tie.close
+    (tie.spec
+    is-finite-requires
+    is-finite-requires-2
+    is-finite-requires-3
+    is-finite-requires-4
+    is-finite-requires-5
+    returns)

@@ -15,4 +15,5 @@ returns : tie.Need-returns
 returns c = simp (c .is-finite3 .ensures, c .before .is-finite2 .ensures, c .before .before .is-finite .ensures)
 
 pub finite-state-spec : {M : Type 1} → statement M
-finite-state-spec = tie.close (tie.spec is-finite-requires is-finite-requires-2 is-finite-requires-3 returns)
+finite-state-spec =
+    tie.close (tie.spec is-finite-requires is-finite-requires-2 is-finite-requires-3 returns)

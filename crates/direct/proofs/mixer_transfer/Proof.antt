@@ -15,14 +15,14 @@ is-finite-requires-2 c κs = search needs
 unless-requires : tie.Need-unless-requires
 unless-requires c κs = search needs
 
+unless-requires-2 : tie.Need-unless-requires-2
+unless-requires-2 c κs = search needs
+
 judge-mixer-requires : tie.Need-judge-mixer-requires
 judge-mixer-requires c κs = search needs
 
 first-requires : tie.Need-first-requires
 first-requires c κs = search needs
-
-unless-requires-2 : tie.Need-unless-requires-2
-unless-requires-2 c κs = search needs
 
 first-requires-2 : tie.Need-first-requires-2
 first-requires-2 c κs = search needs
@@ -41,7 +41,21 @@ unfolding mixerCallOf mixerAnswerOf
 returns c =
     let y = c .before .before .before .before in
     let z = y .before .before .before .before in
-    simp (c .finished .ensures, c .before .first3 .ensures, c .before .before .curves-length .ensures, c .before .before .before .first2 .ensures, y .unless2 .ensures, y .before .first .ensures, y .before .before .judge-mixer .ensures, y .before .before .before .unless .ensures, z .before .is-finite2 .ensures, z .before .before .is-finite .ensures, z .before .before .before .mixer-transfer .ensures)
+    simp (c .finished .ensures, c .before .first3 .ensures, c .before .before .curves-length .ensures, c .before .before .before .first2 .ensures, y .first .ensures, y .before .judge-mixer .ensures, y .before .before .unless2 .ensures, z .unless .ensures, z .before .is-finite2 .ensures, z .before .before .is-finite .ensures, z .before .before .before .mixer-transfer .ensures)
 
 pub mixer-transfer-spec : {M : Type 1} → statement M
-mixer-transfer-spec = tie.close (tie.spec mixer-transfer-requires is-finite-requires is-finite-requires-2 unless-requires judge-mixer-requires first-requires unless-requires-2 first-requires-2 curves-length-requires first-requires-3 finished-requires returns)
+mixer-transfer-spec =
+    tie.close
+    (tie.spec
+    mixer-transfer-requires
+    is-finite-requires
+    is-finite-requires-2
+    unless-requires
+    unless-requires-2
+    judge-mixer-requires
+    first-requires
+    first-requires-2
+    curves-length-requires
+    first-requires-3
+    finished-requires
+    returns)

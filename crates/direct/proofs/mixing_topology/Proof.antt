@@ -17,4 +17,5 @@ unfolding topologyCallOf
 returns c = simp (c .topology-of .ensures, c .before .update .ensures, c .before .before .unless .ensures)
 
 pub mixing-topology-spec : {M : Type 1} → statement M
-mixing-topology-spec = tie.close (tie.spec unless-requires update-requires topology-of-requires returns)
+mixing-topology-spec =
+    tie.close (tie.spec unless-requires update-requires topology-of-requires returns)

@@ -20,4 +20,11 @@ unfolding voltageCallOf
 returns c = simp (c .finished .ensures, c .before .normalise-voltage .ensures, c .before .before .unless .ensures, c .before .before .before .is-finite .ensures)
 
 pub normalise-voltage-spec : {M : Type 1} → statement M
-normalise-voltage-spec = tie.close (tie.spec is-finite-requires unless-requires normalise-voltage-requires finished-requires returns)
+normalise-voltage-spec =
+    tie.close
+    (tie.spec
+    is-finite-requires
+    unless-requires
+    normalise-voltage-requires
+    finished-requires
+    returns)

@@ -28,4 +28,13 @@ returns c =
     simp (c .position-of .ensures, c .before .operating-position .ensures, c .before .before .unless .ensures, c .before .before .before .is-finite3 .ensures, y .is-finite2 .ensures, y .before .is-finite .ensures)
 
 pub operating-position-spec : {M : Type 1} → statement M
-operating-position-spec = tie.close (tie.spec is-finite-requires is-finite-requires-2 is-finite-requires-3 unless-requires operating-position-requires position-of-requires returns)
+operating-position-spec =
+    tie.close
+    (tie.spec
+    is-finite-requires
+    is-finite-requires-2
+    is-finite-requires-3
+    unless-requires
+    operating-position-requires
+    position-of-requires
+    returns)

@@ -25,4 +25,12 @@ returns c =
     simp (c .finished .ensures, c .before .saturate .ensures, c .before .before .unless .ensures, c .before .before .before .is-finite2 .ensures, y .is-finite .ensures)
 
 pub saturate-spec : {M : Type 1} → statement M
-saturate-spec = tie.close (tie.spec is-finite-requires is-finite-requires-2 unless-requires saturate-requires finished-requires returns)
+saturate-spec =
+    tie.close
+    (tie.spec
+    is-finite-requires
+    is-finite-requires-2
+    unless-requires
+    saturate-requires
+    finished-requires
+    returns)

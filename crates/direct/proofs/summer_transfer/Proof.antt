@@ -9,20 +9,20 @@ summer-transfer-requires c κs = search needs
 is-finite-requires : tie.Need-is-finite-requires
 is-finite-requires c κs = search needs
 
+unless-requires : tie.Need-unless-requires
+unless-requires c κs = search needs
+
 is-finite-requires-2 : tie.Need-is-finite-requires-2
 is-finite-requires-2 c κs = search needs
 
-unless-requires : tie.Need-unless-requires
-unless-requires c κs = search needs
+unless-requires-2 : tie.Need-unless-requires-2
+unless-requires-2 c κs = search needs
 
 judge-summer-requires : tie.Need-judge-summer-requires
 judge-summer-requires c κs = search needs
 
 first-requires : tie.Need-first-requires
 first-requires c κs = search needs
-
-unless-requires-2 : tie.Need-unless-requires-2
-unless-requires-2 c κs = search needs
 
 first-requires-2 : tie.Need-first-requires-2
 first-requires-2 c κs = search needs
@@ -48,7 +48,23 @@ returns c =
     let y = c .before .before .before .before in
     let z = y .before .before .before .before in
     let w = z .before .before .before .before in
-    simp (c .finished .ensures, c .before .first4 .ensures, c .before .before .check .ensures, c .before .before .before .first3 .ensures, y .curves-length .ensures, y .before .first2 .ensures, y .before .before .unless2 .ensures, y .before .before .before .first .ensures, z .judge-summer .ensures, z .before .unless .ensures, z .before .before .is-finite2 .ensures, z .before .before .before .is-finite .ensures, w .before .summer-transfer .ensures)
+    simp (c .finished .ensures, c .before .first4 .ensures, c .before .before .check .ensures, c .before .before .before .first3 .ensures, y .curves-length .ensures, y .before .first2 .ensures, y .before .before .first .ensures, y .before .before .before .judge-summer .ensures, z .unless2 .ensures, z .before .is-finite2 .ensures, z .before .before .unless .ensures, z .before .before .before .is-finite .ensures, w .before .summer-transfer .ensures)
 
 pub summer-transfer-spec : {M : Type 1} → statement M
-summer-transfer-spec = tie.close (tie.spec summer-transfer-requires is-finite-requires is-finite-requires-2 unless-requires judge-summer-requires first-requires unless-requires-2 first-requires-2 curves-length-requires first-requires-3 check-requires first-requires-4 finished-requires returns)
+summer-transfer-spec =
+    tie.close
+    (tie.spec
+    summer-transfer-requires
+    is-finite-requires
+    unless-requires
+    is-finite-requires-2
+    unless-requires-2
+    judge-summer-requires
+    first-requires
+    first-requires-2
+    curves-length-requires
+    first-requires-3
+    check-requires
+    first-requires-4
+    finished-requires
+    returns)

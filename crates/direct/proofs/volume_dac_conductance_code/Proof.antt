@@ -17,4 +17,10 @@ unfolding conductanceCallOf
 returns c = simp (c .finished .ensures, c .before .volume-dac-conductance-code .ensures, c .before .before .unless .ensures)
 
 pub volume-dac-conductance-code-spec : {M : Type 1} → statement M
-volume-dac-conductance-code-spec = tie.close (tie.spec unless-requires volume-dac-conductance-code-requires finished-requires returns)
+volume-dac-conductance-code-spec =
+    tie.close
+    (tie.spec
+    unless-requires
+    volume-dac-conductance-code-requires
+    finished-requires
+    returns)

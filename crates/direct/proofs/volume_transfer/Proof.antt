@@ -34,4 +34,15 @@ returns c =
     simp (c .finished .ensures, c .before .first2 .ensures, c .before .before .curves-length .ensures, c .before .before .before .first .ensures, y .judge-volume .ensures, y .before .unless .ensures, y .before .before .is-finite .ensures, y .before .before .before .volume-transfer .ensures)
 
 pub volume-transfer-spec : {M : Type 1} → statement M
-volume-transfer-spec = tie.close (tie.spec volume-transfer-requires is-finite-requires unless-requires judge-volume-requires first-requires curves-length-requires first-requires-2 finished-requires returns)
+volume-transfer-spec =
+    tie.close
+    (tie.spec
+    volume-transfer-requires
+    is-finite-requires
+    unless-requires
+    judge-volume-requires
+    first-requires
+    curves-length-requires
+    first-requires-2
+    finished-requires
+    returns)

@@ -17,4 +17,10 @@ unfolding judgeMixerOf
 returns c = simp (c .judge-sample-curve .ensures, c .before .mixer-average .ensures, c .before .before .mixer-curve .ensures)
 
 pub judge-mixer-spec : {M : Type 1} → statement M
-judge-mixer-spec = tie.close (tie.spec mixer-curve-requires mixer-average-requires judge-sample-curve-requires returns)
+judge-mixer-spec =
+    tie.close
+    (tie.spec
+    mixer-curve-requires
+    mixer-average-requires
+    judge-sample-curve-requires
+    returns)

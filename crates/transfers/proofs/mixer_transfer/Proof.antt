@@ -17,4 +17,5 @@ unfolding mixerOf
 returns c = simp (c .sample-curve .ensures, c .before .mixer-average .ensures, c .before .before .mixer-curve .ensures)
 
 pub mixer-transfer-spec : {M : Type 1} → statement M
-mixer-transfer-spec = tie.close (tie.spec mixer-curve-requires mixer-average-requires sample-curve-requires returns)
+mixer-transfer-spec =
+    tie.close (tie.spec mixer-curve-requires mixer-average-requires sample-curve-requires returns)

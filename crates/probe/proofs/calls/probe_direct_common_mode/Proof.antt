@@ -12,4 +12,5 @@ returns : tie.Need-returns
 returns c = simp (c .numbers .ensures, c .before .filter-output-common-mode .ensures)
 
 pub probe-direct-common-mode-spec : {M : Type 1} → statement M
-probe-direct-common-mode-spec = tie.close (tie.spec filter-output-common-mode-requires numbers-requires returns)
+probe-direct-common-mode-spec =
+    tie.close (tie.spec filter-output-common-mode-requires numbers-requires returns)

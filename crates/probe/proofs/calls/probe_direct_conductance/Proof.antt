@@ -12,4 +12,5 @@ returns : tie.Need-returns
 returns c = simp (c .numbers .ensures, c .before .volume-dac-conductance-code .ensures)
 
 pub probe-direct-conductance-spec : {M : Type 1} → statement M
-probe-direct-conductance-spec = tie.close (tie.spec volume-dac-conductance-code-requires numbers-requires returns)
+probe-direct-conductance-spec =
+    tie.close (tie.spec volume-dac-conductance-code-requires numbers-requires returns)

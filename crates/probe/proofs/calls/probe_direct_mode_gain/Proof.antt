@@ -12,4 +12,5 @@ returns : tie.Need-returns
 returns c = simp (c .numbers .ensures, c .before .filter-mode-output-gain .ensures)
 
 pub probe-direct-mode-gain-spec : {M : Type 1} → statement M
-probe-direct-mode-gain-spec = tie.close (tie.spec filter-mode-output-gain-requires numbers-requires returns)
+probe-direct-mode-gain-spec =
+    tie.close (tie.spec filter-mode-output-gain-requires numbers-requires returns)

@@ -12,4 +12,5 @@ returns : tie.Need-returns
 returns c = simp (c .report .ensures, c .before .before .operating-position .ensures)
 
 pub probe-direct-position-spec : {M : Type 1} → statement M
-probe-direct-position-spec = tie.close (tie.spec operating-position-requires report-requires returns)
+probe-direct-position-spec =
+    tie.close (tie.spec operating-position-requires report-requires returns)
