@@ -2,4 +2,3 @@ pub mod Laws
 pub mod Block
 pub mod Valid
 pub mod RoundTrip
-pub mod Cases

@@ -1,0 +1,34 @@
+use Rattle.filter.specs.Core.{resetOf}
+use borrow.Author.Needs.{needs}
+use Rattle.filter.proofs.Core.reset.Statement.{statement}
+use Rattle.filter.proofs.Core.reset.Tie as tie
+
+update-requires : tie.Need-update-requires
+update-requires c κs = search needs
+
+check-requires : tie.Need-check-requires
+check-requires c κs = search needs
+
+new-requires : tie.Need-new-requires
+new-requires c κs = search needs
+
+refreshed-requires : tie.Need-refreshed-requires
+refreshed-requires c κs = search needs
+
+judged-requires : tie.Need-judged-requires
+judged-requires c κs = search needs
+
+returns : tie.Need-returns
+unfolding resetOf
+returns c = simp (c .judged .ensures, c .before .refreshed .ensures, c .before .before .new .ensures, c .before .before .before .check .ensures, c .before .before .before .before .update .ensures)
+
+pub reset-spec : {M : Type 1} → statement M
+reset-spec =
+    tie.close
+    (tie.spec
+    update-requires
+    check-requires
+    new-requires
+    refreshed-requires
+    judged-requires
+    returns)

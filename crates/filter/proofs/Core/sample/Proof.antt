@@ -1,0 +1,41 @@
+use Rattle.filter.specs.Core.{sampledOf}
+use borrow.Author.Needs.{needs}
+use Rattle.filter.proofs.Core.sample.Statement.{statement}
+use Rattle.filter.proofs.Core.sample.Tie as tie
+
+judge-core-requires : tie.Need-judge-core-requires
+judge-core-requires c κs = search needs
+
+is-done-requires : tie.Need-is-done-requires
+is-done-requires c κs = search needs
+
+sample-requires : tie.Need-sample-requires
+sample-requires c κs = search needs
+
+after-requires : tie.Need-after-requires
+after-requires c κs = search needs
+
+returns : tie.Need-returns
+unfolding sampledOf
+returns c =
+    let z = c .before .before .before .before .before .before .before in
+    simp (c .after .ensures, c .before .sample .ensures, ← z .before .before .judge-core .ensures, ← z .before .is-done .ensures, z .if1 .taken)
+
+quiet-requires : tie.Need-quiet-requires
+quiet-requires c κs = search needs
+
+returns-2 : tie.Need-returns-2
+unfolding sampledOf
+returns-2 c = simp (c .quiet .ensures, ← c .before .before .before .judge-core .ensures, ← c .before .before .is-done .ensures, c .before .if1 .left)
+
+pub sample-spec : {M : Type 1} → statement M
+sample-spec =
+    tie.close
+    (tie.spec
+    judge-core-requires
+    is-done-requires
+    sample-requires
+    after-requires
+    returns
+    quiet-requires
+    returns-2)
