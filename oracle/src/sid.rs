@@ -83,6 +83,23 @@ mod filter {
             &mut self.state
         }
 
+        pub(super) fn topology(&mut self) -> &mut MixingTopology {
+            &mut self.topology
+        }
+
+        /// The three transfers on the topology and the volume that the filter has.
+        pub(super) fn summer(&self, input_sum: f32) -> f32 {
+            self.summer_transfer(input_sum)
+        }
+
+        pub(super) fn mixer(&self, input_sum: f32) -> f32 {
+            self.mixer_transfer(input_sum)
+        }
+
+        pub(super) fn volume(&self, value: f32) -> f32 {
+            self.volume_transfer(value)
+        }
+
         /// One sample: high, band and low of the core, and what the mode selects.
         pub(super) fn sample(&mut self, filter_input_sum: f32, filter_source_energy: f32) -> [f32; 4] {
             let mut signals = RoutedSignals {

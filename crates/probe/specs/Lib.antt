@@ -1,3 +1,4 @@
 pub mod Probe
 pub mod Surface
 pub mod Filter
+pub mod Calls

@@ -1,4 +1,5 @@
 // The lower layers' functions under C names, for oracle/compare to set beside the Rust's. No product links this.
+mod calls;
 mod filter;
 mod surface;
 

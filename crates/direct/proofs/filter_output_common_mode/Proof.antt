@@ -1,0 +1,26 @@
+use Rattle.direct.specs.Calls.{commonModeCallOf}
+use borrow.Author.Needs.{needs}
+use Rattle.direct.proofs.filter_output_common_mode.Statement.{statement}
+use Rattle.direct.proofs.filter_output_common_mode.Tie as tie
+
+unless-requires : tie.Need-unless-requires
+unless-requires c κs = search needs
+
+filter-output-common-mode-requires : tie.Need-filter-output-common-mode-requires
+filter-output-common-mode-requires c κs = search needs
+
+finished-requires : tie.Need-finished-requires
+finished-requires c κs = search needs
+
+returns : tie.Need-returns
+unfolding commonModeCallOf
+returns c = simp (c .finished .ensures, c .before .filter-output-common-mode .ensures, c .before .before .unless .ensures)
+
+pub filter-output-common-mode-spec : {M : Type 1} → statement M
+filter-output-common-mode-spec =
+    tie.close
+    (tie.spec
+    unless-requires
+    filter-output-common-mode-requires
+    finished-requires
+    returns)

@@ -1,0 +1,61 @@
+use Rattle.direct.specs.Calls.{mixerCallOf, mixerAnswerOf}
+use borrow.Author.Needs.{needs}
+use Rattle.direct.proofs.mixer_transfer.Statement.{statement}
+use Rattle.direct.proofs.mixer_transfer.Tie as tie
+
+mixer-transfer-requires : tie.Need-mixer-transfer-requires
+mixer-transfer-requires c κs = search needs
+
+is-finite-requires : tie.Need-is-finite-requires
+is-finite-requires c κs = search needs
+
+is-finite-requires-2 : tie.Need-is-finite-requires-2
+is-finite-requires-2 c κs = search needs
+
+unless-requires : tie.Need-unless-requires
+unless-requires c κs = search needs
+
+unless-requires-2 : tie.Need-unless-requires-2
+unless-requires-2 c κs = search needs
+
+judge-mixer-requires : tie.Need-judge-mixer-requires
+judge-mixer-requires c κs = search needs
+
+first-requires : tie.Need-first-requires
+first-requires c κs = search needs
+
+first-requires-2 : tie.Need-first-requires-2
+first-requires-2 c κs = search needs
+
+curves-length-requires : tie.Need-curves-length-requires
+curves-length-requires c κs = search needs
+
+first-requires-3 : tie.Need-first-requires-3
+first-requires-3 c κs = search needs
+
+finished-requires : tie.Need-finished-requires
+finished-requires c κs = search needs
+
+returns : tie.Need-returns
+unfolding mixerCallOf mixerAnswerOf
+returns c =
+    let y = c .before .before .before .before in
+    let z = y .before .before .before .before in
+    simp (c .finished .ensures, c .before .first3 .ensures, c .before .before .curves-length .ensures, c .before .before .before .first2 .ensures, y .first .ensures, y .before .judge-mixer .ensures, y .before .before .unless2 .ensures, z .unless .ensures, z .before .is-finite2 .ensures, z .before .before .is-finite .ensures, z .before .before .before .mixer-transfer .ensures)
+
+pub mixer-transfer-spec : {M : Type 1} → statement M
+mixer-transfer-spec =
+    tie.close
+    (tie.spec
+    mixer-transfer-requires
+    is-finite-requires
+    is-finite-requires-2
+    unless-requires
+    unless-requires-2
+    judge-mixer-requires
+    first-requires
+    first-requires-2
+    curves-length-requires
+    first-requires-3
+    finished-requires
+    returns)

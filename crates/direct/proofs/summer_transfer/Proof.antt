@@ -1,0 +1,70 @@
+use Rattle.direct.specs.Calls.{summerCallOf, summerAnswerOf}
+use borrow.Author.Needs.{needs}
+use Rattle.direct.proofs.summer_transfer.Statement.{statement}
+use Rattle.direct.proofs.summer_transfer.Tie as tie
+
+summer-transfer-requires : tie.Need-summer-transfer-requires
+summer-transfer-requires c κs = search needs
+
+is-finite-requires : tie.Need-is-finite-requires
+is-finite-requires c κs = search needs
+
+unless-requires : tie.Need-unless-requires
+unless-requires c κs = search needs
+
+is-finite-requires-2 : tie.Need-is-finite-requires-2
+is-finite-requires-2 c κs = search needs
+
+unless-requires-2 : tie.Need-unless-requires-2
+unless-requires-2 c κs = search needs
+
+judge-summer-requires : tie.Need-judge-summer-requires
+judge-summer-requires c κs = search needs
+
+first-requires : tie.Need-first-requires
+first-requires c κs = search needs
+
+first-requires-2 : tie.Need-first-requires-2
+first-requires-2 c κs = search needs
+
+curves-length-requires : tie.Need-curves-length-requires
+curves-length-requires c κs = search needs
+
+first-requires-3 : tie.Need-first-requires-3
+first-requires-3 c κs = search needs
+
+check-requires : tie.Need-check-requires
+check-requires c κs = search needs
+
+first-requires-4 : tie.Need-first-requires-4
+first-requires-4 c κs = search needs
+
+finished-requires : tie.Need-finished-requires
+finished-requires c κs = search needs
+
+returns : tie.Need-returns
+unfolding summerCallOf summerAnswerOf
+returns c =
+    let y = c .before .before .before .before in
+    let z = y .before .before .before .before in
+    let w = z .before .before .before .before in
+    simp (c .finished .ensures, c .before .first4 .ensures, c .before .before .check .ensures, c .before .before .before .first3 .ensures, y .curves-length .ensures, y .before .first2 .ensures, y .before .before .first .ensures, y .before .before .before .judge-summer .ensures, z .unless2 .ensures, z .before .is-finite2 .ensures, z .before .before .unless .ensures, z .before .before .before .is-finite .ensures, w .before .summer-transfer .ensures)
+
+pub summer-transfer-spec : {M : Type 1} → statement M
+summer-transfer-spec =
+    tie.close
+    (tie.spec
+    summer-transfer-requires
+    is-finite-requires
+    unless-requires
+    is-finite-requires-2
+    unless-requires-2
+    judge-summer-requires
+    first-requires
+    first-requires-2
+    curves-length-requires
+    first-requires-3
+    check-requires
+    first-requires-4
+    finished-requires
+    returns)

@@ -1,0 +1,48 @@
+use Rattle.direct.specs.Calls.{volumeCallOf, volumeAnswerOf}
+use borrow.Author.Needs.{needs}
+use Rattle.direct.proofs.volume_transfer.Statement.{statement}
+use Rattle.direct.proofs.volume_transfer.Tie as tie
+
+volume-transfer-requires : tie.Need-volume-transfer-requires
+volume-transfer-requires c κs = search needs
+
+is-finite-requires : tie.Need-is-finite-requires
+is-finite-requires c κs = search needs
+
+unless-requires : tie.Need-unless-requires
+unless-requires c κs = search needs
+
+judge-volume-requires : tie.Need-judge-volume-requires
+judge-volume-requires c κs = search needs
+
+first-requires : tie.Need-first-requires
+first-requires c κs = search needs
+
+curves-length-requires : tie.Need-curves-length-requires
+curves-length-requires c κs = search needs
+
+first-requires-2 : tie.Need-first-requires-2
+first-requires-2 c κs = search needs
+
+finished-requires : tie.Need-finished-requires
+finished-requires c κs = search needs
+
+returns : tie.Need-returns
+unfolding volumeCallOf volumeAnswerOf
+returns c =
+    let y = c .before .before .before .before in
+    simp (c .finished .ensures, c .before .first2 .ensures, c .before .before .curves-length .ensures, c .before .before .before .first .ensures, y .judge-volume .ensures, y .before .unless .ensures, y .before .before .is-finite .ensures, y .before .before .before .volume-transfer .ensures)
+
+pub volume-transfer-spec : {M : Type 1} → statement M
+volume-transfer-spec =
+    tie.close
+    (tie.spec
+    volume-transfer-requires
+    is-finite-requires
+    unless-requires
+    judge-volume-requires
+    first-requires
+    curves-length-requires
+    first-requires-2
+    finished-requires
+    returns)

@@ -1,0 +1,176 @@
+-- What the direct calls answer, each in the order of document 01's table: 1, 2, 4, 10, 5, 9, 3, 6 for what it takes.
+use Prim.Native.Nat.{ℕ, _%_}
+use mathlib.Core.Bool.{Bool, false, _&&_, cond}
+use mathlib.Core.List.{List, [], _∷_}
+use lib.Dec.{eqb, leb}
+use lib.ListN.{length}
+use lib.Ieee.{Float}
+use lib.Ieee.Scale.{finite}
+use Rattle.answers.specs.declared.Buffer.the-variants.{Bundle}
+use Rattle.answers.specs.declared.Answer.{Answer}
+use Rattle.answers.specs.declared.Answer.the-variants.{CurvesLength, InputNotFinite, Domain, MixerInputs, Argument}
+use Rattle.answers.specs.Answers.{isDoneOf, firstOf, unlessOf}
+use Rattle.floats.specs.Arithmetic.{f32}
+use Rattle.integrator.specs.declared.IntegratorState.{IntegratorState}
+use Rattle.integrator.specs.declared.FilterOutputs.{FilterOutputs}
+use Rattle.integrator.specs.declared.Coefficients.{Coefficients}
+use Rattle.integrator.specs.declared.Advanced.{Advanced}
+use Rattle.integrator.specs.Integrator.{saturateOf, advanceOf}
+use Rattle.response.specs.declared.TablePosition.{TablePosition}
+use Rattle.response.specs.Levels.{normaliseVoltageOf, conductanceCodeOf, outputCommonModeOf}
+use Rattle.response.specs.Position.{operatingPositionOf}
+use Rattle.response.specs.Gain.{modeOutputGainOf}
+use Rattle.mixing.specs.declared.MixingTopology.{MixingTopology}
+use Rattle.mixing.specs.Topology.{topologyOf}
+use Rattle.bundle.specs.Layout.{highpassLoadingPlace}
+use Rattle.bundle.specs.Opening.{checkOf, entryAt, judgePlacesOf}
+use Rattle.transfers.specs.Transfers.{mixerOf, judgeMixerOf, volumeOf, judgeVolumeOf}
+use Rattle.sample.specs.Sample.{summerOf, judgeSummerOf}
+use Rattle.direct.specs.declared.Valued.{Valued}
+use Rattle.direct.specs.declared.Stepped.{Stepped}
+use Rattle.direct.specs.declared.Routed.{Routed}
+use Rattle.direct.specs.declared.Binned.{Binned}
+
+-- ---- what they share
+
+-- A value where nothing is refused, else 0. The last refusal is 6, for a value that is not finite.
+abbrev pub finishedOf : Answer → Float → Valued
+finishedOf judged value =
+    let answer = firstOf judged (unlessOf (finite value) Domain) in
+    record { answer = answer; value = cond (isDoneOf answer) value (f32 0) }
+
+abbrev pub curvesLengthOf : List ℕ → Answer
+curvesLengthOf curves = unlessOf (eqb (length curves) 254076) CurvesLength
+
+-- ---- the transfers
+
+-- `summer_transfer`: 1, 2, 4, 10, 5, 3, 6. The summer's last curve is that of four inputs with the two that are always there.
+unfoldable pub summerAnswerOf : List ℕ → List ℕ → MixingTopology → Float → Answer
+summerAnswerOf bundle curves t sum =
+    firstOf (checkOf bundle)
+    (firstOf (curvesLengthOf curves)
+    (firstOf (unlessOf (leb (t .«filter_input_count») 4 && finite (t .«summer_input_reciprocal»)) Argument)
+    (firstOf (unlessOf (finite sum) InputNotFinite)
+    (judgeSummerOf bundle curves t sum))))
+
+unfoldable pub summerCallOf : List ℕ → List ℕ → MixingTopology → Float → Valued
+summerCallOf bundle curves t sum = finishedOf (summerAnswerOf bundle curves t sum) (summerOf bundle curves t sum)
+
+-- `mixer_transfer`: 4, 10, 9, 3, 6
+unfoldable pub mixerAnswerOf : List ℕ → MixingTopology → Float → Answer
+mixerAnswerOf curves t sum =
+    firstOf (curvesLengthOf curves)
+    (firstOf (unlessOf (finite (t .«mixer_input_reciprocal») && finite sum) Argument)
+    (firstOf (unlessOf (leb (t .«mixer_input_count») 7) MixerInputs)
+    (judgeMixerOf curves t sum)))
+
+unfoldable pub mixerCallOf : List ℕ → MixingTopology → Float → Valued
+mixerCallOf curves t sum = finishedOf (mixerAnswerOf curves t sum) (mixerOf curves t sum)
+
+-- `volume_transfer`: 4, 10, 3, 6
+unfoldable pub volumeAnswerOf : List ℕ → ℕ → Float → Answer
+volumeAnswerOf curves volume value =
+    firstOf (curvesLengthOf curves)
+    (firstOf (unlessOf (leb volume 15 && finite value) Argument)
+    (judgeVolumeOf curves volume value))
+
+unfoldable pub volumeCallOf : List ℕ → ℕ → Float → Valued
+volumeCallOf curves volume value = finishedOf (volumeAnswerOf curves volume value) (volumeOf curves volume value)
+
+-- ---- the integrator
+
+-- `IntegratorState::saturate`: 10, 6
+unfoldable pub saturateCallOf : Float → Float → Valued
+saturateCallOf value drive = finishedOf (unlessOf (finite value && finite drive) Argument) (saturateOf value drive)
+
+abbrev pub finiteStateOf : IntegratorState → Bool
+finiteStateOf s = finite (s .«band_state») && finite (s .«low_state») && finite (s .«filter_source_energy»)
+
+abbrev pub finiteOutputsOf : FilterOutputs → Bool
+finiteOutputsOf o = finite (o .«high_pass») && finite (o .«band_pass») && finite (o .«low_pass»)
+
+abbrev pub finiteCoefficientsOf : Coefficients → Bool
+finiteCoefficientsOf k = finite (k .damping) && finite (k .«feedback_drive») && finite (k .a1) && finite (k .a2) && finite (k .a3)
+
+abbrev pub advancedOf : Answer → Advanced → Advanced
+advancedOf answer advanced =
+    cond (isDoneOf answer) advanced
+    (record {
+      outputs = record { «high_pass» = f32 0; «band_pass» = f32 0; «low_pass» = f32 0 };
+      state = record { «band_state» = f32 0; «low_state» = f32 0; «filter_source_energy» = f32 0 };
+    })
+
+-- `IntegratorState::advance`: 10, 6
+unfoldable pub advanceAnswerOf : IntegratorState → Float → Coefficients → Answer
+advanceAnswerOf s driven-input k =
+    let next = advanceOf s driven-input k in
+    firstOf (unlessOf (finiteStateOf s && finite driven-input && finiteCoefficientsOf k) Argument)
+    (unlessOf (finiteStateOf (next .state) && finiteOutputsOf (next .outputs)) Domain)
+
+unfoldable pub advanceCallOf : IntegratorState → Float → Coefficients → Stepped
+advanceCallOf s driven-input k =
+    let answer = advanceAnswerOf s driven-input k in
+    record { answer = answer; advanced = advancedOf answer (advanceOf s driven-input k) }
+
+-- ---- the topology
+
+abbrev pub topologyOr : Answer → MixingTopology → MixingTopology
+topologyOr answer topology =
+    let none = false ∷ false ∷ false ∷ false ∷ [] in
+    cond (isDoneOf answer) topology
+    (record {
+      «filter_membership» = none;
+      «bypass_membership» = none;
+      «filter_input_count» = 0;
+      «bypass_input_count» = 0;
+      «filter_output_count» = 0;
+      «mixer_input_count» = 0;
+      «filter_input_reciprocal» = f32 0;
+      «summer_input_reciprocal» = f32 0;
+      «mixer_input_reciprocal» = f32 0;
+      «filter_internal_mask» = 0;
+      «bypass_internal_mask» = 0;
+    })
+
+-- `MixingTopology::update`: 10
+unfoldable pub topologyCallOf : ℕ → ℕ → Routed
+topologyCallOf routing mode =
+    let answer = unlessOf (leb routing 15 && leb mode 15) Argument in
+    record { answer = answer; topology = topologyOr answer (topologyOf routing mode) }
+
+-- ---- the response
+
+-- `normalise_voltage`: 10
+unfoldable pub voltageCallOf : Float → Valued
+voltageCallOf voltage = finishedOf (unlessOf (finite voltage) Argument) (normaliseVoltageOf voltage)
+
+abbrev pub positionOf : Answer → TablePosition → TablePosition
+positionOf answer position = cond (isDoneOf answer) position (record { lower = 0; upper = 0; fraction = f32 0 })
+
+-- `operating_position`: 10
+unfoldable pub positionCallOf : Float → Float → Float → Binned
+positionCallOf input band low =
+    let answer = unlessOf (finite input && finite band && finite low) Argument in
+    record { answer = answer; position = positionOf answer (operatingPositionOf input band low) }
+
+-- `volume_dac_conductance_code`: 10
+unfoldable pub conductanceCallOf : ℕ → Valued
+conductanceCallOf volume = finishedOf (unlessOf (leb volume 15) Argument) (conductanceCodeOf volume)
+
+-- `filter_output_common_mode`: 10
+unfoldable pub commonModeCallOf : ℕ → ℕ → Valued
+commonModeCallOf mode cutoff = finishedOf (unlessOf (leb mode 15 && leb cutoff 2047) Argument) (outputCommonModeOf mode cutoff)
+
+-- `filter_mode_output_gain`: 1, 2, 10, 3, 6. In mode 4 it reads the bundle's `highpass_loading` at the cutoff.
+unfoldable pub judgeLoadingOf : List ℕ → ℕ → ℕ → Answer
+judgeLoadingOf bundle mode cutoff = judgePlacesOf Bundle bundle (cond (eqb (mode % 8) 4) (highpassLoadingPlace cutoff ∷ []) [])
+
+unfoldable pub modeGainAnswerOf : List ℕ → ℕ → ℕ → ℕ → Answer
+modeGainAnswerOf bundle mode resonance cutoff =
+    firstOf (checkOf bundle)
+    (firstOf (unlessOf (leb mode 15 && leb resonance 15 && leb cutoff 2047) Argument)
+    (judgeLoadingOf bundle mode cutoff))
+
+unfoldable pub modeGainCallOf : List ℕ → ℕ → ℕ → ℕ → Valued
+modeGainCallOf bundle mode resonance cutoff =
+    finishedOf (modeGainAnswerOf bundle mode resonance cutoff) (modeOutputGainOf mode resonance cutoff (entryAt bundle (highpassLoadingPlace cutoff)))

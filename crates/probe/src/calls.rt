@@ -1,0 +1,203 @@
+// The direct calls of the filter's parts, and the total transfers behind the first three.
+ghost use mathlib.Core.Path.{_≡_};
+ghost use Rattle.response.specs.Levels.{quiescentLevelOf};
+ghost use Rattle.sample.specs.Sample.{summerOf};
+ghost use Rattle.transfers.specs.Transfers.{mixerOf, volumeOf};
+ghost use Rattle.direct.specs.Calls as C;
+ghost use Rattle.probe.specs.Calls.{replyOf, stepReplyOf, routeReplyOf, binReplyOf};
+use direct::Valued;
+use integrator::Advanced;
+use integrator::Coefficients;
+use integrator::IntegratorState;
+use mixing::MixingTopology;
+use response::TablePosition;
+
+// An answer by its numbers, and the value beside it.
+#[repr(C)]
+pub struct Reply {
+    pub number: u32,
+    pub buffer: u32,
+    pub place: u32,
+    pub value: f32,
+}
+
+// The other three refuse with a number alone.
+#[repr(C)]
+pub struct StepReply {
+    pub number: u32,
+    pub advanced: Advanced,
+}
+
+#[repr(C)]
+pub struct RouteReply {
+    pub number: u32,
+    pub topology: MixingTopology,
+}
+
+#[repr(C)]
+pub struct BinReply {
+    pub number: u32,
+    pub position: TablePosition,
+}
+
+fn numbers(r: Valued) -> Reply
+    ensures { λ v. ⌜ v ≡ replyOf r ⌝ }
+{
+    let answer = r.answer;
+    let told = answers::report(answer);
+    Reply {
+        number: told.number,
+        buffer: told.buffer,
+        place: told.place,
+        value: r.value,
+    }
+}
+
+// ---- summer, mixer and volume
+
+#[no_mangle]
+pub extern "C" fn probe_direct_summer(
+    bundle: &[u8],
+    curves: &[u8],
+    topology: MixingTopology,
+    sum: f32,
+) -> Reply
+    ensures { λ r. ⌜ r ≡ replyOf (C.summerCallOf (now (bundle .entry)) (now (curves .entry)) topology sum) ⌝ }
+{
+    numbers(direct::summer_transfer(bundle, curves, topology, sum))
+}
+
+#[no_mangle]
+pub extern "C" fn probe_direct_mixer(curves: &[u8], topology: MixingTopology, sum: f32) -> Reply
+    ensures { λ r. ⌜ r ≡ replyOf (C.mixerCallOf (now (curves .entry)) topology sum) ⌝ }
+{
+    numbers(direct::mixer_transfer(curves, topology, sum))
+}
+
+#[no_mangle]
+pub extern "C" fn probe_direct_volume(curves: &[u8], volume: u8, value: f32) -> Reply
+    ensures { λ r. ⌜ r ≡ replyOf (C.volumeCallOf (now (curves .entry)) volume value) ⌝ }
+{
+    numbers(direct::volume_transfer(curves, volume, value))
+}
+
+// The same for any float, and with no look at the buffers.
+#[no_mangle]
+pub extern "C" fn probe_any_summer(
+    bundle: &[u8],
+    curves: &[u8],
+    topology: MixingTopology,
+    sum: f32,
+) -> f32
+    ensures { λ r. ⌜ r ≡ summerOf (now (bundle .entry)) (now (curves .entry)) topology sum ⌝ }
+{
+    sample::summer_transfer(bundle, curves, topology, sum)
+}
+
+#[no_mangle]
+pub extern "C" fn probe_any_mixer(curves: &[u8], topology: MixingTopology, sum: f32) -> f32
+    ensures { λ r. ⌜ r ≡ mixerOf (now (curves .entry)) topology sum ⌝ }
+{
+    transfers::mixer_transfer(curves, topology, sum)
+}
+
+#[no_mangle]
+pub extern "C" fn probe_any_volume(curves: &[u8], volume: u8, value: f32) -> f32
+    ensures { λ r. ⌜ r ≡ volumeOf (now (curves .entry)) volume value ⌝ }
+{
+    transfers::volume_transfer(curves, volume, value)
+}
+
+// ---- integrator and topology
+
+#[no_mangle]
+pub extern "C" fn probe_direct_saturate(value: f32, drive: f32) -> Reply
+    ensures { λ r. ⌜ r ≡ replyOf (C.saturateCallOf value drive) ⌝ }
+{
+    numbers(direct::saturate(value, drive))
+}
+
+#[no_mangle]
+pub extern "C" fn probe_direct_advance(
+    state: IntegratorState,
+    driven_input: f32,
+    k: Coefficients,
+) -> StepReply
+    ensures { λ r. ⌜ r ≡ stepReplyOf (C.advanceCallOf state «driven_input» k) ⌝ }
+{
+    let r = direct::advance(state, driven_input, k);
+    let answer = r.answer;
+    let advanced = r.advanced;
+    StepReply {
+        number: answers::report(answer).number,
+        advanced,
+    }
+}
+
+#[no_mangle]
+pub extern "C" fn probe_direct_topology(routing: u8, mode: u8) -> RouteReply
+    ensures { λ r. ⌜ r ≡ routeReplyOf (C.topologyCallOf routing mode) ⌝ }
+{
+    let r = direct::mixing_topology(routing, mode);
+    let answer = r.answer;
+    let topology = r.topology;
+    RouteReply {
+        number: answers::report(answer).number,
+        topology,
+    }
+}
+
+// ---- response
+
+#[no_mangle]
+pub extern "C" fn probe_direct_quiescent_level() -> f32
+    ensures { λ r. ⌜ r ≡ quiescentLevelOf ⌝ }
+{
+    direct::filter_mode_quiescent_level()
+}
+
+#[no_mangle]
+pub extern "C" fn probe_direct_voltage(voltage: f32) -> Reply
+    ensures { λ r. ⌜ r ≡ replyOf (C.voltageCallOf voltage) ⌝ }
+{
+    numbers(direct::normalise_voltage(voltage))
+}
+
+#[no_mangle]
+pub extern "C" fn probe_direct_position(input: f32, band: f32, low: f32) -> BinReply
+    ensures { λ r. ⌜ r ≡ binReplyOf (C.positionCallOf input band low) ⌝ }
+{
+    let r = direct::operating_position(input, band, low);
+    let answer = r.answer;
+    let position = r.position;
+    BinReply {
+        number: answers::report(answer).number,
+        position,
+    }
+}
+
+#[no_mangle]
+pub extern "C" fn probe_direct_conductance(volume: u8) -> Reply
+    ensures { λ r. ⌜ r ≡ replyOf (C.conductanceCallOf volume) ⌝ }
+{
+    numbers(direct::volume_dac_conductance_code(volume))
+}
+
+#[no_mangle]
+pub extern "C" fn probe_direct_common_mode(mode: u8, cutoff: u16) -> Reply
+    ensures { λ r. ⌜ r ≡ replyOf (C.commonModeCallOf mode cutoff) ⌝ }
+{
+    numbers(direct::filter_output_common_mode(mode, cutoff))
+}
+
+#[no_mangle]
+pub extern "C" fn probe_direct_mode_gain(
+    bundle: &[u8],
+    mode: u8,
+    resonance: u8,
+    cutoff: u16,
+) -> Reply
+    ensures { λ r. ⌜ r ≡ replyOf (C.modeGainCallOf (now (bundle .entry)) mode resonance cutoff) ⌝ }
+{
+    numbers(direct::filter_mode_output_gain(bundle, mode, resonance, cutoff))
+}

@@ -1,0 +1,42 @@
+-- `mixer_transfer` and `volume_transfer` of filter.rs, operation by operation, and the entries that each reads.
+-- Document 01 numbers the mixer's curves 7 to 14 and the volume's 15 to 30.
+use Prim.Native.Nat.{ℕ, _+_, min}
+use mathlib.Core.Bool.{cond}
+use mathlib.Core.List.{List}
+use lib.Dec.{eqb}
+use lib.Ieee.{Float}
+use Rattle.answers.specs.declared.Answer.{Answer}
+use Rattle.answers.specs.declared.Buffer.the-variants.{Curves}
+use Rattle.floats.specs.Arithmetic.{_⊗_}
+use Rattle.response.specs.Levels.{quiescentLevelOf}
+use Rattle.mixing.specs.declared.MixingTopology.{MixingTopology}
+use Rattle.bundle.specs.Opening.{judgePlacesOf}
+use Rattle.curves.specs.Sampling.{sampleCurveOf, sampleCurvePlacesOf}
+
+-- ---- `mixer_transfer`
+
+-- curves.mixer[input_count]. A count above 7, at which the Rust panics, counts as 7.
+abbrev pub mixerCurveOf : ℕ → ℕ
+mixerCurveOf count = 7 + min count 7
+
+-- the quiescent level where there is no input, else input_sum * mixer_input_reciprocal
+abbrev pub mixerAverageOf : MixingTopology → Float → Float
+mixerAverageOf t sum = cond (eqb (t .«mixer_input_count») 0) quiescentLevelOf (sum ⊗ t .«mixer_input_reciprocal»)
+
+unfoldable pub mixerOf : List ℕ → MixingTopology → Float → Float
+mixerOf curves t sum = sampleCurveOf curves (mixerCurveOf (t .«mixer_input_count»)) (mixerAverageOf t sum)
+
+unfoldable pub judgeMixerOf : List ℕ → MixingTopology → Float → Answer
+judgeMixerOf curves t sum = judgePlacesOf Curves curves (sampleCurvePlacesOf (mixerCurveOf (t .«mixer_input_count»)) (mixerAverageOf t sum))
+
+-- ---- `volume_transfer`
+
+-- curves.volume[volume]. A volume above 15, which no register has, counts as 15.
+abbrev pub volumeCurveOf : ℕ → ℕ
+volumeCurveOf volume = 15 + min volume 15
+
+unfoldable pub volumeOf : List ℕ → ℕ → Float → Float
+volumeOf curves volume value = sampleCurveOf curves (volumeCurveOf volume) value
+
+unfoldable pub judgeVolumeOf : List ℕ → ℕ → Float → Answer
+judgeVolumeOf curves volume value = judgePlacesOf Curves curves (sampleCurvePlacesOf (volumeCurveOf volume) value)

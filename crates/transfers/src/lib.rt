@@ -1,0 +1,64 @@
+// The mixer and the volume DAC: each is a curve of its own load, read at what it is fed.
+// A transfer is total, and the judging function beside it refuses the entries that it reads.
+ghost use mathlib.Core.Path.{_≡_};
+ghost use Rattle.transfers.specs.Transfers as T;
+use answers::Answer;
+use mixing::MixingTopology;
+
+// ---- mixer_transfer
+
+// The mixer's curve for a count of inputs; it has none for more than seven.
+fn mixer_curve(count: usize) -> u8
+    ensures { λ r. ⌜ r ≡ T.mixerCurveOf count ⌝ }
+{
+    if count < 7 { 7 + (count as u8) } else { 14 }
+}
+
+// The level of one input; where there is none, the amplifier is at rest.
+fn mixer_average(topology: MixingTopology, sum: f32) -> f32
+    ensures { λ r. ⌜ r ≡ T.mixerAverageOf topology sum ⌝ }
+{
+    if topology.mixer_input_count == 0 {
+        return response::filter_mode_quiescent_level();
+    }
+    sum * topology.mixer_input_reciprocal
+}
+
+// The mixer's output for the sum of its inputs.
+pub fn mixer_transfer(curves: &[u8], topology: MixingTopology, input_sum: f32) -> f32
+    ensures { λ r. ⌜ r ≡ T.mixerOf (now (curves .entry)) topology «input_sum» ⌝ }
+{
+    let curve = mixer_curve(topology.mixer_input_count);
+    curves::sample_curve(curves, curve, mixer_average(topology, input_sum))
+}
+
+// The entries that it reads.
+pub fn judge_mixer(curves: &[u8], topology: MixingTopology, input_sum: f32) -> Answer
+    ensures { λ r. ⌜ r ≡ T.judgeMixerOf (now (curves .entry)) topology «input_sum» ⌝ }
+{
+    let curve = mixer_curve(topology.mixer_input_count);
+    curves::judge_sample_curve(curves, curve, mixer_average(topology, input_sum))
+}
+
+// ---- volume_transfer
+
+// The curve of a volume; there is none above fifteen.
+fn volume_curve(volume: u8) -> u8
+    ensures { λ r. ⌜ r ≡ T.volumeCurveOf volume ⌝ }
+{
+    if volume < 15 { 15 + volume } else { 30 }
+}
+
+// The volume DAC's output for the mixer's.
+pub fn volume_transfer(curves: &[u8], volume: u8, value: f32) -> f32
+    ensures { λ r. ⌜ r ≡ T.volumeOf (now (curves .entry)) volume value ⌝ }
+{
+    curves::sample_curve(curves, volume_curve(volume), value)
+}
+
+// The entries that it reads.
+pub fn judge_volume(curves: &[u8], volume: u8, value: f32) -> Answer
+    ensures { λ r. ⌜ r ≡ T.judgeVolumeOf (now (curves .entry)) volume value ⌝ }
+{
+    curves::judge_sample_curve(curves, volume_curve(volume), value)
+}
