@@ -38,7 +38,7 @@ use Rattle.script.specs.declared.Event.the-variants.{CutoffLow, CutoffHigh, Rou
 use Rattle.filter.specs.declared.Core.{Core}
 use Rattle.filter.specs.declared.Written.{Written}
 use Rattle.filter.specs.declared.Fed.{Fed}
-use Rattle.filter.specs.Core.{freshTopologyOf, coreOf, judgeLentOf, judgeStateOf, judgeWriteOf, judgeCoreOf, countableOf, finiteGainsOf, settledOf, quietOf, withIntegrator, afterOf, startAnswerOf, startedOf, refreshedOf, remodedOf, lowWrittenOf, highWrittenOf, routingWrittenOf, modeWrittenOf, resetOf, sampledOf, fedOf}
+use Rattle.filter.specs.Core.{freshTopologyOf, coreOf, judgeLentOf, judgeStateOf, judgeWriteOf, judgeCoreOf, countableOf, finiteGainsOf, settledOf, quietOf, withIntegrator, afterOf, startAnswerOf, startedOf, refreshedOf, reselectedOf, lowWrittenOf, highWrittenOf, routingWrittenOf, modeWrittenOf, resetOf, sampledOf, fedOf}
 use Rattle.filter.specs.Plain.{Plain, plainStart, plainChange, plainTaken, plainSample, plainStep, plainTrace}
 use Rattle.filter.specs.Lists.{coreTrace, shown, shownAll, Fresh, AllFresh}
 
@@ -133,26 +133,26 @@ module _ (bundle : List ℕ) (k : Core) (opened : checkOf bundle ≡ Done) (kept
   filter-finite = gains-finite bundle (k .state) (kept .judged) .0
 
   module _ (v : ℕ) where
-    abbrev remoded : State
-    remoded = writeModeAndVolumeOf (k .state) v
+    abbrev selected : State
+    selected = writeModeAndVolumeOf (k .state) v
 
     mode-judged :
-        firstOf (judgeModeOf bundle (remoded .registers) (effectiveCutoffOf (k .state)))
-        (unlessOf (finite (modeGainOf bundle (remoded .registers) (effectiveCutoffOf (k .state))) && finiteOutputOf (outputControlsOf (remoded .registers))) Domain)
-        ≡ judgeControlsOf bundle remoded
+        firstOf (judgeModeOf bundle (selected .registers) (effectiveCutoffOf (k .state)))
+        (unlessOf (finite (modeGainOf bundle (selected .registers) (effectiveCutoffOf (k .state))) && finiteOutputOf (outputControlsOf (selected .registers))) Domain)
+        ≡ judgeControlsOf bundle selected
     unfolding judgeControlsOf controlsOf finiteControlsOf
     mode-judged = rw (filter-usable bundle (k .state) (kept .judged), filter-finite) refl
 
     mode-new :
         _≡_ {A = ControlCache}
-        (record { filter = k .controls .filter; «mode_output_gain» = modeGainOf bundle (remoded .registers) (effectiveCutoffOf (k .state)); output = outputControlsOf (remoded .registers) })
-        (controlsOf bundle remoded)
+        (record { filter = k .controls .filter; «mode_output_gain» = modeGainOf bundle (selected .registers) (effectiveCutoffOf (k .state)); output = outputControlsOf (selected .registers) })
+        (controlsOf bundle selected)
     unfolding controlsOf
     mode-new = rw filter-fresh refl
 
-    mode-changes : Changes bundle k remoded (quietOf (modeWrittenOf bundle k v))
-    unfolding modeWrittenOf remodedOf
-    mode-changes = rw (write-judged, mode-judged, mode-new) (settles bundle k remoded (coreOf bundle remoded) kept refl (mode-valid (k .state) (kept .valid) v))
+    mode-changes : Changes bundle k selected (quietOf (modeWrittenOf bundle k v))
+    unfolding modeWrittenOf reselectedOf
+    mode-changes = rw (write-judged, mode-judged, mode-new) (settles bundle k selected (coreOf bundle selected) kept refl (mode-valid (k .state) (kept .valid) v))
 
 -- ---- a sample: the registers stay, so all that is kept stays
 

@@ -97,14 +97,14 @@ startedOf bundle curves s = record { answer = startAnswerOf bundle curves s; cor
 unfoldable pub refreshedOf : List ℕ → Core → State → MixingTopology → Written
 refreshedOf bundle k s t = settledOf (judgeControlsOf bundle s) k (record { state = s; topology = t; controls = controlsOf bundle s })
 
--- `update`, and the last two of them alone
-unfoldable pub remodedOf : List ℕ → Core → State → Written
-remodedOf bundle k s =
+-- the last two of them alone
+unfoldable pub reselectedOf : List ℕ → Core → State → MixingTopology → Written
+reselectedOf bundle k s t =
     let effective = effectiveCutoffOf s in
     let gain = modeGainOf bundle (s .registers) effective in
     let output = outputControlsOf (s .registers) in
     settledOf (firstOf (judgeModeOf bundle (s .registers) effective) (unlessOf (finite gain && finiteOutputOf output) Domain)) k
-    (record { state = s; topology = freshTopologyOf s; controls = record { filter = k .controls .filter; «mode_output_gain» = gain; output = output } })
+    (record { state = s; topology = t; controls = record { filter = k .controls .filter; «mode_output_gain» = gain; output = output } })
 
 -- a write of the cutoff does not touch the topology
 unfoldable pub lowWrittenOf : List ℕ → Core → ℕ → Written
@@ -119,7 +119,9 @@ routingWrittenOf bundle k value =
     judgedOf (judgeWriteOf bundle k) k (refreshedOf bundle k s (freshTopologyOf s))
 
 unfoldable pub modeWrittenOf : List ℕ → Core → ℕ → Written
-modeWrittenOf bundle k value = judgedOf (judgeWriteOf bundle k) k (remodedOf bundle k (writeModeAndVolumeOf (k .state) value))
+modeWrittenOf bundle k value =
+    let s = writeModeAndVolumeOf (k .state) value in
+    judgedOf (judgeWriteOf bundle k) k (reselectedOf bundle k s (freshTopologyOf s))
 
 unfoldable pub resetOf : List ℕ → Core → Written
 resetOf bundle k = judgedOf (checkOf bundle) k (refreshedOf bundle k startingState (freshTopologyOf startingState))

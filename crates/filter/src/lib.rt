@@ -192,13 +192,12 @@ impl Core {
         )
     }
 
-    // The next core of a state whose mode or volume changed: the filter's controls stay. Refuses 3, 6.
-    pub fn remoded(self, bundle: &[u8], state: State) -> Written
-        ensures { λ r. ⌜ r ≡ F.remodedOf (now (bundle .entry)) self state ⌝ }
+    // The same with the filter's controls as they are: mode and volume have no part in them. Refuses 3, 6.
+    pub fn reselected(self, bundle: &[u8], state: State, topology: MixingTopology) -> Written
+        ensures { λ r. ⌜ r ≡ F.reselectedOf (now (bundle .entry)) self state topology ⌝ }
     {
         let registers = state.registers;
         let effective = state.effective_cutoff();
-        let topology = routed(state);
         let mut controls = self.controls;
         let gain = controls::refresh_mode_output_gain(bundle, registers, effective);
         let output = controls::refresh_register_output_state(registers);
@@ -251,12 +250,12 @@ impl Core {
         ensures { λ r. ⌜ r ≡ F.routingWrittenOf (now (bundle .entry)) self value ⌝ }
     {
         let state = self.state;
-        let next = state.write_signal_routing(value);
-        let topology = routed(next);
+        let rerouted = state.write_signal_routing(value);
+        let topology = routed(rerouted);
         judged(
             self.judge_write(bundle),
             self,
-            self.refreshed(bundle, next, topology),
+            self.refreshed(bundle, rerouted, topology),
         )
     }
 
@@ -266,7 +265,12 @@ impl Core {
     {
         let state = self.state;
         let next = state.write_mode_and_volume(value);
-        judged(self.judge_write(bundle), self, self.remoded(bundle, next))
+        let topology = routed(next);
+        judged(
+            self.judge_write(bundle),
+            self,
+            self.reselected(bundle, next, topology),
+        )
     }
 
     // The core of the starting value, whatever the core was. Refuses 1, 2, 3, 6.

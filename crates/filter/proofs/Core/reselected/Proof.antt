@@ -1,13 +1,10 @@
-use Rattle.filter.specs.Core.{remodedOf}
+use Rattle.filter.specs.Core.{reselectedOf}
 use borrow.Author.Needs.{needs}
-use Rattle.filter.proofs.Core.remoded.Statement.{statement}
-use Rattle.filter.proofs.Core.remoded.Tie as tie
+use Rattle.filter.proofs.Core.reselected.Statement.{statement}
+use Rattle.filter.proofs.Core.reselected.Tie as tie
 
 effective-cutoff-requires : tie.Need-effective-cutoff-requires
 effective-cutoff-requires c κs = search needs
-
-routed-requires : tie.Need-routed-requires
-routed-requires c κs = search needs
 
 refresh-mode-output-gain-requires : tie.Need-refresh-mode-output-gain-requires
 refresh-mode-output-gain-requires c κs = search needs
@@ -34,15 +31,14 @@ settled-requires : tie.Need-settled-requires
 settled-requires c κs = search needs
 
 returns : tie.Need-returns
-unfolding remodedOf
-returns c = simp (c .settled .ensures, c .before .first .ensures, c .before .before .judge-mode .ensures, c .before .before .before .unless .ensures, c .before .before .before .before .finite-output .ensures, c .before .before .before .before .before .is-finite .ensures, c .before .before .before .before .before .before .refresh-register-output-state .ensures, c .before .before .before .before .before .before .before .refresh-mode-output-gain .ensures, c .before .before .before .before .before .before .before .before .before .routed .ensures, c .before .before .before .before .before .before .before .before .before .before .effective-cutoff .ensures)
+unfolding reselectedOf
+returns c = simp (c .settled .ensures, c .before .first .ensures, c .before .before .judge-mode .ensures, c .before .before .before .unless .ensures, c .before .before .before .before .finite-output .ensures, c .before .before .before .before .before .is-finite .ensures, c .before .before .before .before .before .before .refresh-register-output-state .ensures, c .before .before .before .before .before .before .before .refresh-mode-output-gain .ensures, c .before .before .before .before .before .before .before .before .before .effective-cutoff .ensures)
 
-pub remoded-spec : {M : Type 1} → statement M
-remoded-spec =
+pub reselected-spec : {M : Type 1} → statement M
+reselected-spec =
     tie.close
     (tie.spec
     effective-cutoff-requires
-    routed-requires
     refresh-mode-output-gain-requires
     refresh-register-output-state-requires
     is-finite-requires
