@@ -6,6 +6,8 @@
 include!("sid.rs");
 
 mod circuit;
+mod core;
+mod kept;
 mod numbers;
 mod sample;
 mod state;
@@ -16,6 +18,7 @@ fn main() {
     subjects.extend(state::compare());
     subjects.extend(surface::compare());
     subjects.extend(sample::compare());
+    subjects.extend(core::compare());
     let mut differences = 0;
     for (name, tally) in &subjects {
         println!("{name}: {} compared, {} differences", tally.compared, tally.differences);
