@@ -20,7 +20,9 @@ pub use words::u64_at;
 // ---- a file
 
 // More than any file of records has.
-pub fn room() -> [u8; 1048576] {
+pub fn room() -> [u8; 1048576]
+    ensures { λ r. ⌜ 1048576 ≡ length r ⌝ }
+{
     [0; 1048576]
 }
 

@@ -1,10 +1,8 @@
-use Rattle.replay.specs.Records.{countOf}
 use borrow.Author.Tests.{eq-eqb, ne-eqb}
 use borrow.Author.Needs.{needs}
+use Rattle.replay.specs.Records.{countOf}
 use Rattle.replay.proofs.count.Statement.{statement}
 use Rattle.replay.proofs.count.Tie as tie
-use Rattle.replay.proofs.count.Reads as reads
-use Rattle.replay.proofs.count.Lts as lts
 
 returns : tie.Need-returns
 unfolding countOf

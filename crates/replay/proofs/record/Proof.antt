@@ -1,12 +1,9 @@
-use Rattle.replay.proofs.Laws.{inside, record-is, record-none}
-use denote.Ref.{now}
 use native.Mathlib.Omega.{arith}
+use denote.Ref.{now}
 use borrow.Author.Needs.{needs}
+use Rattle.replay.proofs.Laws.{inside, record-is, record-none}
 use Rattle.replay.proofs.record.Statement.{statement}
 use Rattle.replay.proofs.record.Tie as tie
-use Rattle.replay.proofs.record.Reads as reads
-use Rattle.replay.proofs.record.Lts as lts
-use Rattle.replay.proofs.count.Reads as count-reads
 
 count-requires : tie.Need-count-requires
 count-requires c κs = search needs

@@ -1,10 +1,8 @@
-use Rattle.wire.proofs.Floats.{same-no-nan, unlike-nan}
 use lib.Ieee.{toBits}
 use borrow.Author.Needs.{needs}
+use Rattle.wire.proofs.Floats.{same-no-nan, unlike-nan}
 use Rattle.replay.proofs.words.double_bits.Statement.{statement}
 use Rattle.replay.proofs.words.double_bits.Tie as tie
-use Rattle.replay.proofs.words.double_bits.Reads as reads
-use Rattle.replay.proofs.words.double_bits.Lts as lts
 
 float-to-bits-result : tie.Need-float-to-bits-result
 float-to-bits-result c = same-no-nan _ (c .if1 .taken)

@@ -1,12 +1,9 @@
 use mathlib.Core.Path.{ap, sym, _∙_}
-use Rattle.replay.proofs.Laws.{no-nan, nan-above}
 use lib.Ieee.{binary64, div, ofBits}
 use borrow.Author.Needs.{needs}
+use Rattle.replay.proofs.Laws.{no-nan, nan-above}
 use Rattle.replay.proofs.words.f64_at.Statement.{statement}
 use Rattle.replay.proofs.words.f64_at.Tie as tie
-use Rattle.replay.proofs.words.f64_at.Reads as reads
-use Rattle.replay.proofs.words.f64_at.Lts as lts
-use Rattle.replay.proofs.words.u64_at.Reads as u64-at-reads
 
 u64-at-requires : tie.Need-u64-at-requires
 u64-at-requires c κs = search needs

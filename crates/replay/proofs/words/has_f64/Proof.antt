@@ -1,10 +1,6 @@
 use borrow.Author.Needs.{needs}
 use Rattle.replay.proofs.words.has_f64.Statement.{statement}
 use Rattle.replay.proofs.words.has_f64.Tie as tie
-use Rattle.replay.proofs.words.has_f64.Reads as reads
-use Rattle.replay.proofs.words.has_f64.Lts as lts
-use Rattle.replay.proofs.words.double_bits.Reads as double-bits-reads
-use Rattle.replay.proofs.words.u64_at.Reads as u64-at-reads
 
 u64-at-requires : tie.Need-u64-at-requires
 u64-at-requires c κs = search needs

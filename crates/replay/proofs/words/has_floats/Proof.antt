@@ -1,17 +1,14 @@
-use Rattle.replay.proofs.Laws.{at-start, one-more, at-end, finished}
-use Rattle.replay.specs.Records.{areFloats, hasFloats}
-use borrow.Author.Tests.{lt-ltb, le-ltb}
-use denote.Ref.{now}
-use lib.ListN.{length, drop}
-use native.Mathlib.Omega.{arith}
+use Prim.Native.Nat.{_+_, _*_, _-_, _≤_}
 use mathlib.Core.Bool.{_&&_}
 use mathlib.Core.Path.{_≡_}
-use Prim.Native.Nat.{_+_, _*_, _-_, _≤_}
+use native.Mathlib.Omega.{arith}
+use lib.ListN.{length, drop}
+use denote.Ref.{now}
+use borrow.Author.Tests.{lt-ltb, le-ltb}
+use Rattle.replay.specs.Records.{areFloats, hasFloats}
+use Rattle.replay.proofs.Laws.{at-start, one-more, at-end, finished}
 use Rattle.replay.proofs.words.has_floats.Statement.{statement}
 use Rattle.replay.proofs.words.has_floats.Tie as tie
-use Rattle.replay.proofs.words.has_floats.Reads as reads
-use Rattle.replay.proofs.words.has_floats.Lts as lts
-use Rattle.replay.proofs.words.has.Reads as has-reads
 
 abbrev Inv-loop : tie.InvT-loop
 Inv-loop r place xs all₀ i₀ all i = (i ≤ length xs) × (areFloats r place xs ≡ (all && areFloats r (place + 4 * i) (drop i xs)))

@@ -1,9 +1,6 @@
 use borrow.Author.Needs.{needs}
 use Rattle.replay.proofs.words.has_size.Statement.{statement}
 use Rattle.replay.proofs.words.has_size.Tie as tie
-use Rattle.replay.proofs.words.has_size.Reads as reads
-use Rattle.replay.proofs.words.has_size.Lts as lts
-use Rattle.replay.proofs.words.size_at.Reads as size-at-reads
 
 size-at-requires : tie.Need-size-at-requires
 size-at-requires c κs = search needs

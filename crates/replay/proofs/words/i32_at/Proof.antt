@@ -1,11 +1,8 @@
-use Rattle.replay.proofs.Laws.{upper-fits, upper-is}
 use native.Mathlib.Omega.{arith}
 use borrow.Author.Needs.{needs}
+use Rattle.replay.proofs.Laws.{upper-fits, upper-is}
 use Rattle.replay.proofs.words.i32_at.Statement.{statement}
 use Rattle.replay.proofs.words.i32_at.Tie as tie
-use Rattle.replay.proofs.words.i32_at.Reads as reads
-use Rattle.replay.proofs.words.i32_at.Lts as lts
-use Rattle.wire.proofs.u32_at.Reads as u32-at-reads
 
 u32-at-requires : tie.Need-u32-at-requires
 u32-at-requires c κs = search needs

@@ -1,11 +1,8 @@
-use Rattle.replay.specs.Records.{u64At}
 use borrow.Author.Tests.{lt-ltb, le-ltb}
 use borrow.Author.Needs.{needs}
+use Rattle.replay.specs.Records.{u64At}
 use Rattle.replay.proofs.words.u64_at.Statement.{statement}
 use Rattle.replay.proofs.words.u64_at.Tie as tie
-use Rattle.replay.proofs.words.u64_at.Reads as reads
-use Rattle.replay.proofs.words.u64_at.Lts as lts
-use Rattle.wire.proofs.u32_at.Reads as u32-at-reads
 
 u32-at-requires : tie.Need-u32-at-requires
 u32-at-requires c κs = search needs
