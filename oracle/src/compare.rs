@@ -6,7 +6,9 @@
 include!("sid.rs");
 
 mod circuit;
+mod core;
 mod direct;
+mod kept;
 mod numbers;
 mod sample;
 mod state;
@@ -18,6 +20,7 @@ fn main() {
     subjects.extend(surface::compare());
     subjects.extend(sample::compare());
     subjects.extend(direct::compare());
+    subjects.extend(core::compare());
     let mut differences = 0;
     for (name, tally) in &subjects {
         println!("{name}: {} compared, {} differences", tally.compared, tally.differences);

@@ -5,9 +5,12 @@
 
 include!("sid.rs");
 
+mod kept;
+
 use constants::*;
 use filter::Filter;
 use integrator::IntegratorState;
+use kept::{block, control_words, step_cutoff};
 use mixing::MixingTopology;
 use response::*;
 use tables::*;
@@ -50,6 +53,8 @@ fn main() {
     save("sample_curve", sample_curve(&filter));
     save("curves", curve_entries(&filter));
     save("writes", writes(&mut filter));
+    save("controls", controls(&mut filter));
+    save("filter_sample", filter_samples(&mut filter));
 
     sums();
 }
@@ -919,6 +924,102 @@ fn writes(filter: &mut Filter) -> Vec<[u32; 11]> {
             }
             let effective = filter.control().effective_cutoff_index as u32;
             records.push(joined([&before, &[register, value.into()], &cutoff_words(filter), &[effective]]));
+        }
+    }
+    records
+}
+
+// ---- The filter's core
+
+/// A state's block as words.
+fn block_words(filter: &mut Filter, floats: [f32; 3]) -> [u32; 6] {
+    let block = block(filter.registers(), floats.map(f32::to_bits));
+    std::array::from_fn(|index| u32::from_le_bytes(block[4 * index..][..4].try_into().unwrap()))
+}
+
+/// Any registers, by writes: every fourth time with a low write pending.
+fn write_any(filter: &mut Filter, random: &mut Random) {
+    let from = random.below(2048) as u16;
+    let to = if random.below(2) == 0 { random.below(2048) as u16 } else { (from + random.below(129) as u16).saturating_sub(64).min(2047) };
+    step_cutoff(filter, from, to);
+    if random.below(4) == 0 {
+        filter.write_cutoff_low(random.bits() as u8);
+    }
+    filter.write_signal_routing(random.bits() as u8);
+    filter.write_mode_and_volume(random.bits() as u8);
+}
+
+/// A state's block, then every field of the control cache in its order: every resonance and mode at cutoffs that are at an end, displaced to
+/// an end or displaced from one, then any registers.
+fn controls(filter: &mut Filter) -> Vec<[u32; 72]> {
+    let mut random = Random::of("controls");
+    let steps = [(0, 0), (2047, 2047), (2047, 0), (0, 2047), (0, 66), (2047, 1981)];
+    let mut records = vec![];
+    let mut record = |filter: &mut Filter| {
+        let block = block_words(filter, [0.0; 3]);
+        records.push(joined([&block, &control_words(filter.control())]));
+    };
+    for (from, to) in steps {
+        step_cutoff(filter, from, to);
+        for pair in 0..=255u8 {
+            filter.write_signal_routing(pair & 0xf0 | if pair == 0 { 3 } else { random.below(16) as u8 });
+            filter.write_mode_and_volume(pair << 4 | random.below(16) as u8);
+            record(filter);
+        }
+    }
+    for _ in 0..1024 {
+        write_any(filter, &mut random);
+        record(filter);
+    }
+    records
+}
+
+/// Band, low, energy before a sample. In turn: zeros of either sign with nothing routed in and with something, an energy of minus the knee,
+/// a capacitor so high that the saturation's cube is near overflow, any numbers, and what the filter meets.
+fn state_floats(filter: &mut Filter, random: &mut Random, number: usize) -> [f32; 3] {
+    let zeros = std::array::from_fn(|bit| if number >> bit & 1 == 0 { 0.0 } else { -0.0 });
+    let resonance = (random.below(16) << 4) as u8;
+    match number {
+        0..128 => {
+            filter.write_signal_routing(resonance);
+            zeros
+        }
+        128..256 => {
+            filter.write_signal_routing(resonance | (1 + random.below(15)) as u8);
+            zeros
+        }
+        256..512 => [random.between(-1.5, 1.5), random.between(-1.5, 1.5), -FILTER_SOURCE_ENERGY_KNEE],
+        512..1024 => {
+            let [band, low] = [(); 2].map(|()| random.pick(&[1.0, -1.0]) * random.between(1.0e11, 8.0e12));
+            let energy = random.between(0.0, 1.0);
+            [[band, low, energy], [band, 0.25, energy], [-0.5, low, energy]][number % 3]
+        }
+        1024..1536 => [random.any(), random.moderate(), random.moderate()],
+        _ => [random.between(-1.5, 1.5), random.between(-1.5, 1.5), random.between(0.0, 1.0)],
+    }
+}
+
+/// A state's block, the input's sum and the source's energy; high, band, low and what the mode selects, and the block after the sample. Samples
+/// that leave the finite domain are left out.
+fn filter_samples(filter: &mut Filter) -> Vec<[u32; 18]> {
+    let mut random = Random::of("filter_sample");
+    let edges: Vec<f32> = edges().into_iter().filter(|x| x.is_finite()).collect();
+    let mut records = vec![];
+    for number in 0..4096 {
+        write_any(filter, &mut random);
+        let state = state_floats(filter, &mut random, number);
+        let mut input = [random.between(0.0, 4.0), random.between(0.0, 2.0)];
+        if random.below(8) == 0 {
+            input[random.below(2) as usize] = random.pick(&edges);
+        }
+        let before = block_words(filter, state);
+        let kept = filter.state();
+        [kept.band_state, kept.low_state, kept.filter_source_energy] = state;
+        let outputs = filter.sample(input[0], input[1]);
+        let kept = filter.state();
+        let after = [kept.band_state, kept.low_state, kept.filter_source_energy];
+        if state.iter().chain(&outputs).chain(&after).all(|x| x.is_finite()) {
+            records.push(joined([&before, &input.map(word), &outputs.map(word), &block_words(filter, after)]));
         }
     }
     records

@@ -1,11 +1,12 @@
 //! The register writes beside the Rust's, and blocks and scripts beside an independent check.
 
-use crate::control::FilterRegisters;
+use crate::control::{ControlCache, FilterRegisters};
 use crate::filter::Filter;
+pub use crate::kept::block;
 use crate::numbers::{Random, Tally};
 use crate::surface;
 
-mod proved {
+pub mod proved {
     #[repr(C)]
     #[derive(PartialEq)]
     pub struct Script {
@@ -67,20 +68,6 @@ pub fn compare() -> Vec<(&'static str, Tally)> {
         ("state blocks", blocks()),
         ("scripts", scripts()),
     ]
-}
-
-/// Document 01's block of a state, the floats given by their bits.
-pub fn block(registers: &FilterRegisters, floats: [u32; 3]) -> [u8; 24] {
-    let mut bytes = [0; 24];
-    bytes[0..2].copy_from_slice(&registers.cutoff.to_le_bytes());
-    bytes[2..4].copy_from_slice(&registers.cutoff_dac_displacement_codes.to_le_bytes());
-    bytes[4..6].copy_from_slice(&registers.cutoff_write_base.to_le_bytes());
-    bytes[6] = u8::from(registers.cutoff_low_pending);
-    bytes[7..11].copy_from_slice(&[registers.resonance, registers.routing, registers.mode, registers.volume]);
-    for (bytes, bits) in bytes[12..].chunks_exact_mut(4).zip(floats) {
-        bytes.copy_from_slice(&bits.to_le_bytes());
-    }
-    bytes
 }
 
 fn effective_cutoff(block: &[u8]) -> u16 {
@@ -156,42 +143,50 @@ fn controls(filter: &mut Filter) -> Tally {
             12..=14 => filter.write_mode_and_volume(value),
             _ => filter.reset(),
         }
-        let block = block(filter.registers(), [0; 3]);
-        let ours = unsafe { proved::probe_controls(bundle.as_ptr(), bundle.len(), block.as_ptr(), block.len()) };
-        let (filtered, output, theirs) = (ours.filter, ours.output, filter.control());
-        tally.same(filtered.effective_cutoff_index, theirs.effective_cutoff_index);
-        tally.same(filtered.resonance_index, theirs.resonance_index);
-        tally.same(output.frozen_dac_bias_mode, theirs.frozen_dac_bias_mode);
-        let tables = [
-            (filtered.integrator_gain, theirs.integrator_gain),
-            (filtered.input_drive, theirs.input_drive),
-            (filtered.feedback_drive, theirs.feedback_drive),
-        ];
-        for (ours, theirs) in tables {
-            tally.same(ours.map(f32::to_bits), theirs.map(f32::to_bits));
-        }
-        let numbers = [
-            (filtered.damping, theirs.damping),
-            (filtered.source_gain_modulation, theirs.source_gain_modulation),
-            (filtered.high_pass_low_coupling, theirs.high_pass_low_coupling),
-            (filtered.band_pass_low_coupling, theirs.band_pass_low_coupling),
-            (filtered.resonance_position, theirs.resonance_position),
-            (filtered.resonance_feedback_scale, theirs.resonance_feedback_scale),
-            (filtered.source_modulation_resonance_scale, theirs.source_modulation_resonance_scale),
-            (filtered.resonance_output_gain, theirs.resonance_output_gain),
-            (ours.mode_output_gain, theirs.mode_output_gain),
-            (output.filter_common_mode, theirs.filter_common_mode),
-            (output.volume_fraction, theirs.volume_fraction),
-            (output.two_voice_volume_gain_offset, theirs.two_voice_volume_gain_offset),
-            (output.combined_common_mode_gain, theirs.combined_common_mode_gain),
-            (output.pure_bypass_common_mode_gain, theirs.pure_bypass_common_mode_gain),
-            (output.scaled_filter_common_mode, theirs.scaled_filter_common_mode),
-        ];
-        for (ours, theirs) in numbers {
-            tally.same_float(ours, theirs);
-        }
+        let ours = controls_of(&bundle, &block(filter.registers(), [0; 3]));
+        same_controls(&mut tally, &ours, filter.control());
     }
     tally
+}
+
+pub fn controls_of(bundle: &[u8], block: &[u8]) -> proved::Controls {
+    unsafe { proved::probe_controls(bundle.as_ptr(), bundle.len(), block.as_ptr(), block.len()) }
+}
+
+/// Every field by its bits, an array as one value.
+pub fn same_controls(tally: &mut Tally, ours: &proved::Controls, theirs: &ControlCache) {
+    let (filtered, output) = (&ours.filter, &ours.output);
+    tally.same(filtered.effective_cutoff_index, theirs.effective_cutoff_index);
+    tally.same(filtered.resonance_index, theirs.resonance_index);
+    tally.same(output.frozen_dac_bias_mode, theirs.frozen_dac_bias_mode);
+    let tables = [
+        (filtered.integrator_gain, theirs.integrator_gain),
+        (filtered.input_drive, theirs.input_drive),
+        (filtered.feedback_drive, theirs.feedback_drive),
+    ];
+    for (ours, theirs) in tables {
+        tally.same(ours.map(f32::to_bits), theirs.map(f32::to_bits));
+    }
+    let numbers = [
+        (filtered.damping, theirs.damping),
+        (filtered.source_gain_modulation, theirs.source_gain_modulation),
+        (filtered.high_pass_low_coupling, theirs.high_pass_low_coupling),
+        (filtered.band_pass_low_coupling, theirs.band_pass_low_coupling),
+        (filtered.resonance_position, theirs.resonance_position),
+        (filtered.resonance_feedback_scale, theirs.resonance_feedback_scale),
+        (filtered.source_modulation_resonance_scale, theirs.source_modulation_resonance_scale),
+        (filtered.resonance_output_gain, theirs.resonance_output_gain),
+        (ours.mode_output_gain, theirs.mode_output_gain),
+        (output.filter_common_mode, theirs.filter_common_mode),
+        (output.volume_fraction, theirs.volume_fraction),
+        (output.two_voice_volume_gain_offset, theirs.two_voice_volume_gain_offset),
+        (output.combined_common_mode_gain, theirs.combined_common_mode_gain),
+        (output.pure_bypass_common_mode_gain, theirs.pure_bypass_common_mode_gain),
+        (output.scaled_filter_common_mode, theirs.scaled_filter_common_mode),
+    ];
+    for (ours, theirs) in numbers {
+        tally.same_float(ours, theirs);
+    }
 }
 
 fn is_valid(block: &[u8]) -> bool {

@@ -1,13 +1,13 @@
 // Records of the crates that stand on no other: constants, answers, floats and wire.
-use crate::record::f64_at;
-use crate::record::has;
-use crate::record::has_f64;
-use crate::record::has_flag;
-use crate::record::i32_at;
-use crate::record::size_at;
-use crate::record::u64_at;
 use answers::Answer;
 use answers::Buffer;
+use replay::f64_at;
+use replay::has;
+use replay::has_f64;
+use replay::has_flag;
+use replay::i32_at;
+use replay::size_at;
+use replay::u64_at;
 
 // ---- constants
 

@@ -3,6 +3,8 @@ use integrator::Advanced;
 use integrator::Coefficients;
 use integrator::IntegratorState;
 use integrator::Substeps;
+use replay::has;
+use replay::has_floats;
 ghost use Prim.Native.Nat.{_<_};
 
 pub(crate) fn saturate(r: &[u8]) -> bool {
@@ -49,14 +51,15 @@ fn coefficients_at(r: &[u8]) -> Coefficients {
     }
 }
 
-fn has_advanced(r: &[u8], place: usize, a: Advanced) -> bool
-    requires { ⌜ place < 256 ⌝ }
-{
-    has(r, place, a.outputs.high_pass)
-        & has(r, place + 4, a.outputs.band_pass)
-        & has(r, place + 8, a.outputs.low_pass)
-        & has(r, place + 12, a.state.band_state)
-        & has(r, place + 16, a.state.low_state)
+fn has_advanced(r: &[u8], place: usize, a: Advanced) -> bool {
+    let five = [
+        a.outputs.high_pass,
+        a.outputs.band_pass,
+        a.outputs.low_pass,
+        a.state.band_state,
+        a.state.low_state,
+    ];
+    has_floats(r, place, &five)
 }
 
 // Whether the five numbers after a substep are finite.
@@ -72,9 +75,4 @@ fn settled_at(r: &[u8], place: usize) -> bool
 
 fn finite_at(r: &[u8], place: usize) -> bool {
     wire::finite_bits(wire::u32_at(r, place))
-}
-
-// Whether the record has the float's bits at a place.
-pub(crate) fn has(r: &[u8], place: usize, x: f32) -> bool {
-    wire::u32_at(r, place) == wire::float_bits(x)
 }

@@ -1,18 +1,12 @@
 // Records of response and mixing.
-use crate::circuit::has;
 use mixing::MixingTopology;
+use replay::has;
+use replay::has_flag;
+use replay::has_size;
 ghost use Prim.Native.Nat.{_<_};
 
 fn byte_at(r: &[u8], place: usize) -> u8 {
     wire::byte_at(r, place)
-}
-
-fn has_size(r: &[u8], place: usize, n: usize) -> bool {
-    (wire::u32_at(r, place) as usize) == n
-}
-
-fn has_flag(r: &[u8], place: usize, flag: bool) -> bool {
-    wire::u32_at(r, place) == flag as u32
 }
 
 pub(crate) fn operating_position(r: &[u8]) -> bool {

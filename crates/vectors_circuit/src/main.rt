@@ -4,10 +4,6 @@ mod circuit;
 mod levels;
 mod registers;
 
-ghost use Prim.Native.Nat.{_<_};
-ghost use Rattle.io.specs.Counts.{Counts};
-use libc::STDOUT_FILENO;
-
 // What a record asks for. Each kind has a file, and a function that says whether one of its records agrees.
 enum Kind {
     Saturate,
@@ -37,82 +33,31 @@ fn agrees(kind: Kind, r: &[u8]) -> bool {
 
 // Each kind with its file and the number of words in its records.
 fn main() {
-    replay(Kind::Saturate, b"saturate.bin", 3);
-    replay(Kind::Advance, b"advance.bin", 13);
-    replay(Kind::Substeps, b"substeps.bin", 28);
-    replay(Kind::OperatingPosition, b"operating_position.bin", 6);
-    replay(Kind::Conductance, b"conductance.bin", 2);
-    replay(Kind::CommonMode, b"common_mode.bin", 3);
-    replay(Kind::ModeGain, b"mode_gain.bin", 5);
-    replay(Kind::Topology, b"topology.bin", 19);
-    replay(Kind::Writes, b"writes.bin", 11);
+    replay_file(Kind::Saturate, b"saturate.bin", 3);
+    replay_file(Kind::Advance, b"advance.bin", 13);
+    replay_file(Kind::Substeps, b"substeps.bin", 28);
+    replay_file(Kind::OperatingPosition, b"operating_position.bin", 6);
+    replay_file(Kind::Conductance, b"conductance.bin", 2);
+    replay_file(Kind::CommonMode, b"common_mode.bin", 3);
+    replay_file(Kind::ModeGain, b"mode_gain.bin", 5);
+    replay_file(Kind::Topology, b"topology.bin", 19);
+    replay_file(Kind::Writes, b"writes.bin", 11);
 }
 
-// More than any file of records has.
-fn record_room() -> [u8; 262144] {
-    [0; 262144]
+// Prints the line of one file, whose records have a number of words.
+fn replay_file(kind: Kind, file: &[u8], words: usize) {
+    let mut room = replay::room();
+    let n = replay::load(file, &mut room);
+    let agreed = count_agreeing(kind, &room[..n], words);
+    replay::print_line(file, &room[..n], words, agreed);
 }
 
-// Fills bytes from the start of a file, and answers how many came: none where it is missing.
-fn load(file: &[u8], bytes: &mut [u8]) -> usize
-    ensures { λ r. ⌜ Counts r (now (bytes .exit)) ⌝ }
-{
-    let fd = os::open_read(file);
-    if fd < 0 {
-        return 0;
-    }
-    let n = io::read_full(fd, bytes);
-    libc::close(fd);
-    n
-}
-
-// Prints the line of one file: also where it is missing, or ends within a record.
-fn replay(kind: Kind, file: &[u8], words: usize)
-    requires { ⌜ (0 < words) × (words < 64) ⌝ }
-{
-    let mut room = record_room();
-    let n = load(file, &mut room);
-    let size = 4 * words;
-    let agreed = count_agreeing(kind, &room[..n], size);
-    print_title(file);
-    if n == 0 {
-        print(b" missing\n");
-        return;
-    }
-    print(b" ");
-    io::print_decimal(STDOUT_FILENO, agreed as u64);
-    print(b" of ");
-    io::print_decimal(STDOUT_FILENO, (n / size) as u64);
-    if n % size != 0 {
-        print(b", short");
-    }
-    print(b"\n");
-}
-
-// How many of the whole records agree.
-fn count_agreeing(kind: Kind, records: &[u8], size: usize) -> usize
-    requires { ⌜ 0 < size ⌝ }
-{
+// How many of the records agree.
+fn count_agreeing(kind: Kind, records: &[u8], words: usize) -> usize {
     let mut agreed = 0;
-    let mut at = 0;
-    while size <= records.len() - at {
-        let end = at + size;
-        if agrees(kind, &records[at..end]) {
-            agreed += 1;
-        }
-        at = end;
+    for i in 0..replay::count(records, words) {
+        let agree = agrees(kind, replay::record(records, words, i));
+        agreed = std::num::wrapping_add_usize(agreed, agree as usize);
     }
     agreed
-}
-
-fn print(text: &[u8]) {
-    io::write_all(STDOUT_FILENO, text);
-}
-
-// A file's name without its last four bytes, .bin.
-fn print_title(file: &[u8]) {
-    if 4 <= file.len() {
-        let end = file.len() - 4;
-        print(&file[0..end]);
-    }
 }

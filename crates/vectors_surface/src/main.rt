@@ -1,10 +1,7 @@
-// Replays the oracle's answers (oracle/README.md) for the bundle and the curves built from it, and prints a line for each file: its name,
-// how many of its records agree, and how many it has.
+// Replays the oracle's answers (oracle/README.md) for the bundle, the curves built from it and the filter's core on both, and prints a
+// line for each file: its name, how many of its records agree, and how many it has.
+mod core;
 mod surface;
-
-ghost use Prim.Native.Nat.{_<_};
-ghost use Rattle.io.specs.Counts.{Counts};
-use libc::STDOUT_FILENO;
 
 // What a record asks for. Each kind has a file, and a function that says whether one of its records agrees.
 enum Kind {
@@ -13,46 +10,52 @@ enum Kind {
     Sample,
     SampleCurve,
     Curves,
+    Controls,
+    FilterSample,
 }
 
-// The lent bytes are the bundle's or the curves'.
-fn agrees(kind: Kind, r: &[u8], lent: &[u8]) -> bool {
+fn agrees(kind: Kind, r: &[u8], bundle: &[u8], curves: &[u8]) -> bool {
     match kind {
-        Kind::Words => surface::word(r, lent),
+        Kind::Words => surface::word(r, bundle),
         Kind::LoadPosition => surface::load_position(r),
-        Kind::Sample => surface::sample(r, lent),
-        Kind::SampleCurve => surface::sample_curve(r, lent),
-        Kind::Curves => surface::curve_entry(r, lent),
+        Kind::Sample => surface::sample(r, bundle),
+        Kind::SampleCurve => surface::sample_curve(r, curves),
+        Kind::Curves => surface::curve_entry(r, curves),
+        Kind::Controls => core::controls(r, bundle),
+        Kind::FilterSample => core::sample(r, bundle, curves),
     }
 }
 
 fn main() {
     let mut bundle = bundle_room();
-    let n = load(b"bundle.bin", &mut bundle);
+    let n = replay::load(b"bundle.bin", &mut bundle);
     replay_all(&bundle[..n]);
 }
 
-// The number that opening and building answer, then each kind with its file and the number of words in its records.
+// The numbers that opening and building answer, then the files.
 fn replay_all(bundle: &[u8]) {
     let mut curves = curves_room();
-    print(b"bundle ");
-    io::print_decimal(STDOUT_FILENO, bundle.len() as u64);
-    print(b" bytes, open ");
-    io::print_decimal(
-        STDOUT_FILENO,
-        sid_filter::sid_filter_open(bundle).number as u64,
-    );
-    print(b", build ");
-    io::print_decimal(
-        STDOUT_FILENO,
-        sid_filter::sid_filter_build_curves(bundle, &mut curves).number as u64,
-    );
-    print(b"\n");
-    replay(Kind::Words, b"words.bin", 3, bundle);
-    replay(Kind::LoadPosition, b"load_position.bin", 4, bundle);
-    replay(Kind::Sample, b"sample.bin", 3, bundle);
-    replay(Kind::SampleCurve, b"sample_curve.bin", 3, &curves);
-    replay(Kind::Curves, b"curves.bin", 2, &curves);
+    let opened = sid_filter::sid_filter_open(bundle).number;
+    let built = sid_filter::sid_filter_build_curves(bundle, &mut curves).number;
+    replay::print(b"bundle ");
+    replay::print_number(bundle.len());
+    replay::print(b" bytes, open ");
+    replay::print_number(opened as usize);
+    replay::print(b", build ");
+    replay::print_number(built as usize);
+    replay::print(b"\n");
+    replay_files(bundle, &curves);
+}
+
+// Each kind with its file and the number of words in its records.
+fn replay_files(bundle: &[u8], curves: &[u8]) {
+    replay_file(Kind::Words, b"words.bin", 3, bundle, curves);
+    replay_file(Kind::LoadPosition, b"load_position.bin", 4, bundle, curves);
+    replay_file(Kind::Sample, b"sample.bin", 3, bundle, curves);
+    replay_file(Kind::SampleCurve, b"sample_curve.bin", 3, bundle, curves);
+    replay_file(Kind::Curves, b"curves.bin", 2, bundle, curves);
+    replay_file(Kind::Controls, b"controls.bin", 72, bundle, curves);
+    replay_file(Kind::FilterSample, b"filter_sample.bin", 18, bundle, curves);
 }
 
 // The bundle alone takes 6 of the 8 MiB of stack.
@@ -64,71 +67,20 @@ fn curves_room() -> [u8; 254076] {
     [0; 254076]
 }
 
-// More than any file of records has.
-fn record_room() -> [u8; 524288] {
-    [0; 524288]
+// Prints the line of one file, whose records have a number of words.
+fn replay_file(kind: Kind, file: &[u8], words: usize, bundle: &[u8], curves: &[u8]) {
+    let mut room = replay::room();
+    let n = replay::load(file, &mut room);
+    let agreed = count_agreeing(kind, &room[..n], words, bundle, curves);
+    replay::print_line(file, &room[..n], words, agreed);
 }
 
-// Fills bytes from the start of a file, and answers how many came: none where it is missing.
-fn load(file: &[u8], bytes: &mut [u8]) -> usize
-    ensures { λ r. ⌜ Counts r (now (bytes .exit)) ⌝ }
-{
-    let fd = os::open_read(file);
-    if fd < 0 {
-        return 0;
-    }
-    let n = io::read_full(fd, bytes);
-    libc::close(fd);
-    n
-}
-
-// Prints the line of one file: also where it is missing, or ends within a record.
-fn replay(kind: Kind, file: &[u8], words: usize, lent: &[u8])
-    requires { ⌜ (0 < words) × (words < 128) ⌝ }
-{
-    let mut room = record_room();
-    let n = load(file, &mut room);
-    let size = 4 * words;
-    let agreed = count_agreeing(kind, &room[..n], size, lent);
-    print_title(file);
-    if n == 0 {
-        print(b" missing\n");
-        return;
-    }
-    print(b" ");
-    io::print_decimal(STDOUT_FILENO, agreed as u64);
-    print(b" of ");
-    io::print_decimal(STDOUT_FILENO, (n / size) as u64);
-    if n % size != 0 {
-        print(b", short");
-    }
-    print(b"\n");
-}
-
-// How many of the whole records agree.
-fn count_agreeing(kind: Kind, records: &[u8], size: usize, lent: &[u8]) -> usize
-    requires { ⌜ 0 < size ⌝ }
-{
+// How many of the records agree.
+fn count_agreeing(kind: Kind, records: &[u8], words: usize, bundle: &[u8], curves: &[u8]) -> usize {
     let mut agreed = 0;
-    let mut at = 0;
-    while size <= records.len() - at {
-        let end = at + size;
-        if agrees(kind, &records[at..end], lent) {
-            agreed += 1;
-        }
-        at = end;
+    for i in 0..replay::count(records, words) {
+        let agree = agrees(kind, replay::record(records, words, i), bundle, curves);
+        agreed = std::num::wrapping_add_usize(agreed, agree as usize);
     }
     agreed
-}
-
-fn print(text: &[u8]) {
-    io::write_all(STDOUT_FILENO, text);
-}
-
-// A file's name without its last four bytes, .bin.
-fn print_title(file: &[u8]) {
-    if 4 <= file.len() {
-        let end = file.len() - 4;
-        print(&file[0..end]);
-    }
 }

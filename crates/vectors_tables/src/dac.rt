@@ -1,10 +1,9 @@
 // Records of ladder. Document 01 refuses an argument that is not finite or past its table, and then a result that is not finite; what is refused
 // is 0.0.
-use crate::record::f64_at;
-use crate::record::same;
-use crate::record::twelve_at;
 use answers::Answer;
 use ladder::Nodes;
+use replay::double_bits;
+use replay::f64_at;
 ghost use Prim.Native.Nat.{_<_};
 
 pub(crate) fn solution(r: &[u8]) -> bool {
@@ -45,6 +44,19 @@ pub(crate) fn position(r: &[u8], positions: &[u8]) -> bool {
     wire::u32_at(r, 4) == wire::u32_at(positions, 4 * code)
 }
 
+// Twelve floats side by side.
+fn twelve_at(r: &[u8], place: usize) -> [f64; 12]
+    requires { ⌜ place < 400 ⌝ }
+{
+    let mut values = [0.0; 12];
+    let mut i = 0;
+    while i < 12 {
+        values[i] = f64_at(r, place + 8 * i);
+        i += 1;
+    }
+    values
+}
+
 fn all_finite(xs: &[f64; 12]) -> bool {
     let mut all = true;
     let mut i = 0;
@@ -77,10 +89,11 @@ fn is_answer(good: bool, finite: bool, answer: Answer) -> bool {
     }
 }
 
+// Whether a value has the bits that were told, or is 0.0 where the call is refused.
 fn is_value(done: bool, told: f64, value: f64) -> bool {
     if done {
-        same(told, value)
+        double_bits(told) == double_bits(value)
     } else {
-        same(0.0, value)
+        double_bits(0.0) == double_bits(value)
     }
 }

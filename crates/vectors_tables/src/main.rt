@@ -1,11 +1,6 @@
 // Replays the oracle's answers (oracle/README.md) through ladder, and prints a line for each file: its name, how many of its records
 // agree, and how many it has.
 mod dac;
-mod record;
-
-ghost use Prim.Native.Nat.{_<_};
-ghost use Rattle.io.specs.Counts.{Counts};
-use libc::STDOUT_FILENO;
 
 // What a record asks for. Each kind has a file, and a function that says whether one of its records agrees.
 enum Kind {
@@ -28,15 +23,15 @@ fn agrees(kind: Kind, r: &[u8], positions: &[u8]) -> bool {
 fn main() {
     let mut positions = [0u8; 8192];
     ladder::build_cutoff_control_positions(&mut positions);
-    replay(
+    replay_file(
         Kind::SolveTridiagonal,
         b"solve_tridiagonal.bin",
         120,
         &positions,
     );
-    replay(Kind::LadderWeights, b"ladder_weights.bin", 27, &positions);
-    replay(Kind::LadderValue, b"ladder_value.bin", 29, &positions);
-    replay(
+    replay_file(Kind::LadderWeights, b"ladder_weights.bin", 27, &positions);
+    replay_file(Kind::LadderValue, b"ladder_value.bin", 29, &positions);
+    replay_file(
         Kind::ControlPositions,
         b"control_positions.bin",
         2,
@@ -44,71 +39,20 @@ fn main() {
     );
 }
 
-// More than any file of records has.
-fn record_room() -> [u8; 262144] {
-    [0; 262144]
+// Prints the line of one file, whose records have a number of words.
+fn replay_file(kind: Kind, file: &[u8], words: usize, positions: &[u8]) {
+    let mut room = replay::room();
+    let n = replay::load(file, &mut room);
+    let agreed = count_agreeing(kind, &room[..n], words, positions);
+    replay::print_line(file, &room[..n], words, agreed);
 }
 
-// Fills bytes from the start of a file, and answers how many came: none where it is missing.
-fn load(file: &[u8], bytes: &mut [u8]) -> usize
-    ensures { λ r. ⌜ Counts r (now (bytes .exit)) ⌝ }
-{
-    let fd = os::open_read(file);
-    if fd < 0 {
-        return 0;
-    }
-    let n = io::read_full(fd, bytes);
-    libc::close(fd);
-    n
-}
-
-// Prints the line of one file: also where it is missing, or ends within a record.
-fn replay(kind: Kind, file: &[u8], words: usize, positions: &[u8])
-    requires { ⌜ (0 < words) × (words < 128) ⌝ }
-{
-    let mut room = record_room();
-    let n = load(file, &mut room);
-    let size = 4 * words;
-    let agreed = count_agreeing(kind, &room[..n], size, positions);
-    print_title(file);
-    if n == 0 {
-        print(b" missing\n");
-        return;
-    }
-    print(b" ");
-    io::print_decimal(STDOUT_FILENO, agreed as u64);
-    print(b" of ");
-    io::print_decimal(STDOUT_FILENO, (n / size) as u64);
-    if n % size != 0 {
-        print(b", short");
-    }
-    print(b"\n");
-}
-
-// How many of the whole records agree.
-fn count_agreeing(kind: Kind, records: &[u8], size: usize, positions: &[u8]) -> usize
-    requires { ⌜ 0 < size ⌝ }
-{
+// How many of the records agree.
+fn count_agreeing(kind: Kind, records: &[u8], words: usize, positions: &[u8]) -> usize {
     let mut agreed = 0;
-    let mut at = 0;
-    while size <= records.len() - at {
-        let end = at + size;
-        if agrees(kind, &records[at..end], positions) {
-            agreed += 1;
-        }
-        at = end;
+    for i in 0..replay::count(records, words) {
+        let agree = agrees(kind, replay::record(records, words, i), positions);
+        agreed = std::num::wrapping_add_usize(agreed, agree as usize);
     }
     agreed
-}
-
-fn print(text: &[u8]) {
-    io::write_all(STDOUT_FILENO, text);
-}
-
-// A file's name without its last four bytes, .bin.
-fn print_title(file: &[u8]) {
-    if 4 <= file.len() {
-        let end = file.len() - 4;
-        print(&file[0..end]);
-    }
 }

@@ -1,7 +1,7 @@
 use Prim.Native.Nat.{_≤_, _-_}
 use borrow.Author.Needs.{needs}
-use Rattle.vectors_tables.proofs.record.twelve_at.Statement.{statement}
-use Rattle.vectors_tables.proofs.record.twelve_at.Tie as tie
+use Rattle.vectors_tables.proofs.dac.twelve_at.Statement.{statement}
+use Rattle.vectors_tables.proofs.dac.twelve_at.Tie as tie
 
 abbrev Inv-loop : tie.InvT-loop
 Inv-loop r place values₀ i₀ values i = i ≤ 12

@@ -1,0 +1,110 @@
+// Records of the filter's core: what is kept of a state, and a sample. Each starts with a state's block.
+use control::Decoded;
+use control::State;
+use controls::Refreshed;
+use mixing::MixingTopology;
+use replay::has_flag;
+use replay::has_floats;
+use replay::has_size;
+use sample::Sampled;
+
+fn state_at(r: &[u8]) -> Decoded {
+    if 24 <= r.len() {
+        return State::decode(&r[0..24]);
+    }
+    Decoded::Invalid
+}
+
+pub(crate) fn controls(r: &[u8], bundle: &[u8]) -> bool {
+    let decoded = state_at(r);
+    match decoded {
+        Decoded::Valid(state) => has_controls(r, controls::refresh(bundle, state)),
+        Decoded::Invalid => false,
+    }
+}
+
+// Every field of the Rust's ControlCache, in its order.
+fn has_controls(r: &[u8], refreshed: Refreshed) -> bool {
+    let answer = refreshed.answer;
+    let f = refreshed.controls.filter;
+    let o = refreshed.controls.output;
+    let integrator_gain = f.integrator_gain;
+    let input_drive = f.input_drive;
+    let feedback_drive = f.feedback_drive;
+    let at_the_cutoff = [
+        f.damping,
+        f.source_gain_modulation,
+        f.high_pass_low_coupling,
+        f.band_pass_low_coupling,
+        f.resonance_position,
+    ];
+    let others = [
+        f.resonance_feedback_scale,
+        f.source_modulation_resonance_scale,
+        f.resonance_output_gain,
+        refreshed.controls.mode_output_gain,
+        o.filter_common_mode,
+        o.volume_fraction,
+        o.two_voice_volume_gain_offset,
+        o.combined_common_mode_gain,
+        o.pure_bypass_common_mode_gain,
+        o.scaled_filter_common_mode,
+    ];
+    answers::is_done(answer)
+        & has_size(r, 24, f.effective_cutoff_index)
+        & has_floats(r, 28, &integrator_gain)
+        & has_floats(r, 92, &input_drive)
+        & has_floats(r, 156, &feedback_drive)
+        & has_floats(r, 220, &at_the_cutoff)
+        & has_size(r, 240, f.resonance_index)
+        & has_floats(r, 244, &others)
+        & has_flag(r, 284, o.frozen_dac_bias_mode)
+}
+
+pub(crate) fn sample(r: &[u8], bundle: &[u8], curves: &[u8]) -> bool {
+    let decoded = state_at(r);
+    match decoded {
+        Decoded::Valid(state) => keeps_registers(r)
+            & has_sampled(r, sampled(r, bundle, curves, state)),
+        Decoded::Invalid => false,
+    }
+}
+
+// A sample on the topology and the controls that a state's registers give.
+fn sampled(r: &[u8], bundle: &[u8], curves: &[u8], s: State) -> Sampled {
+    let registers = s.registers;
+    let integrator = s.integrator;
+    sample::sample(
+        bundle,
+        curves,
+        MixingTopology::update(registers.routing, registers.mode),
+        controls::controls_of(bundle, s),
+        registers.mode,
+        integrator,
+        wire::f32_at(r, 24),
+        wire::f32_at(r, 28),
+    )
+}
+
+// The outputs, then the three floats of the block after the sample.
+fn has_sampled(r: &[u8], sampled: Sampled) -> bool {
+    match sampled {
+        Sampled::Taken { outputs, state } => {
+            let given = [outputs.high, outputs.band, outputs.low, outputs.selected];
+            let left = [
+                state.band_state,
+                state.low_state,
+                state.filter_source_energy,
+            ];
+            has_floats(r, 32, &given) & has_floats(r, 60, &left)
+        }
+        Sampled::Refused { answer } => false,
+    }
+}
+
+// The block after the sample has the registers of the one before.
+fn keeps_registers(r: &[u8]) -> bool {
+    (wire::u32_at(r, 48) == wire::u32_at(r, 0))
+        & (wire::u32_at(r, 52) == wire::u32_at(r, 4))
+        & (wire::u32_at(r, 56) == wire::u32_at(r, 8))
+}

@@ -1,0 +1,57 @@
+//! States that the filter is put in by its own writes, and what it then keeps, as words.
+
+use crate::control::{ControlCache, FilterRegisters};
+use crate::filter::Filter;
+
+/// Document 01's block of a state, the floats given by their bits.
+pub fn block(registers: &FilterRegisters, floats: [u32; 3]) -> [u8; 24] {
+    let mut bytes = [0; 24];
+    bytes[0..2].copy_from_slice(&registers.cutoff.to_le_bytes());
+    bytes[2..4].copy_from_slice(&registers.cutoff_dac_displacement_codes.to_le_bytes());
+    bytes[4..6].copy_from_slice(&registers.cutoff_write_base.to_le_bytes());
+    bytes[6] = u8::from(registers.cutoff_low_pending);
+    bytes[7..11].copy_from_slice(&[registers.resonance, registers.routing, registers.mode, registers.volume]);
+    for (bytes, bits) in bytes[12..].chunks_exact_mut(4).zip(floats) {
+        bytes.copy_from_slice(&bits.to_le_bytes());
+    }
+    bytes
+}
+
+/// Every field of the cache, in its order; a float is its bits.
+pub fn control_words(control: &ControlCache) -> [u32; 66] {
+    let mut words = vec![control.effective_cutoff_index as u32];
+    let tables = [control.integrator_gain, control.input_drive, control.feedback_drive];
+    words.extend(tables.as_flattened().iter().map(|entry| entry.to_bits()));
+    let numbers = [
+        control.damping,
+        control.source_gain_modulation,
+        control.high_pass_low_coupling,
+        control.band_pass_low_coupling,
+        control.resonance_position,
+    ];
+    words.extend(numbers.map(f32::to_bits));
+    words.push(control.resonance_index as u32);
+    let numbers = [
+        control.resonance_feedback_scale,
+        control.source_modulation_resonance_scale,
+        control.resonance_output_gain,
+        control.mode_output_gain,
+        control.filter_common_mode,
+        control.volume_fraction,
+        control.two_voice_volume_gain_offset,
+        control.combined_common_mode_gain,
+        control.pure_bypass_common_mode_gain,
+        control.scaled_filter_common_mode,
+    ];
+    words.extend(numbers.map(f32::to_bits));
+    words.push(control.frozen_dac_bias_mode.into());
+    words.try_into().expect("66 words")
+}
+
+/// Writes one cutoff and then another: the step between them leaves the displacement.
+pub fn step_cutoff(filter: &mut Filter, from: u16, to: u16) {
+    for code in [from, to] {
+        filter.write_cutoff_low((code & 7) as u8);
+        filter.write_cutoff_high((code >> 3) as u8);
+    }
+}
