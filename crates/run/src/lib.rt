@@ -6,6 +6,9 @@ ghost use lib.ListN.{length, drop};
 ghost use Rattle.wire.specs.Wire.{putAt};
 ghost use Rattle.script.specs.Script.{slicesIn, allReadable, eventsIn, samplesOf};
 ghost use Rattle.script.proofs.Laws.{slicesFrom};
+ghost use Rattle.answers.specs.declared.Answer.the-variants.{Done};
+ghost use Rattle.filter.specs.Core.{judgeLentOf};
+ghost use Rattle.filter.proofs.Demand3.{Kept};
 ghost use Rattle.run.specs.Run as R;
 ghost use Rattle.run.specs.Rows as W;
 use answers::Answer;
@@ -164,5 +167,95 @@ fn play_samples(
         events: i,
         samples,
         integrator,
+    }
+}
+
+// The core with another integrator.
+fn resumed(core: Core, integrator: IntegratorState) -> Core
+    ensures { λ r. ⌜ r ≡ W.resumedOf core integrator ⌝ }
+{
+    let mut next = core;
+    let mut state = core.state;
+    state.integrator = integrator;
+    next.state = state;
+    next
+}
+
+// The events of a script from its first core on: samples in a row, then one event that is none, and so on.
+fn play(
+    bundle: &[u8],
+    curves: &[u8],
+    first: Core,
+    script: &[u8],
+    count: usize,
+    output: &mut [u8],
+) -> Played
+    requires { ⌜ (count ≤ 65536) × (judgeLentOf (now bundle) (now curves) ≡ Done) × Kept (now bundle) first × (allReadable (slicesFrom (now script) count 0) ≡ true) × (16 * samplesOf (eventsIn (slicesFrom (now script) count 0)) ≤ length (now output)) ⌝ }
+    ensures { λ r. ⌜ (r ≡ W.playEnd 0 0 (R.playOf (now (bundle .entry)) (now (curves .entry)) (first .state) (eventsIn (slicesFrom (now (script .entry)) count 0)))) × (now (output .exit) ≡ putAt (now (output .entry)) 0 (R.sampleBytes (R.playOf (now (bundle .entry)) (now (curves .entry)) (first .state) (eventsIn (slicesFrom (now (script .entry)) count 0)) .samples))) ⌝ }
+{
+    let mut core = first;
+    let mut samples = 0;
+    let mut i = 0;
+    while i < count {
+        let state = core.state;
+        let registers = state.registers;
+        let integrator = state.integrator;
+        let topology = core.topology;
+        let controls = core.controls;
+        let row = play_samples(
+            bundle,
+            curves,
+            topology,
+            controls,
+            registers.mode,
+            integrator,
+            script,
+            i,
+            count,
+            output,
+            samples,
+        );
+        let answer = row.answer;
+        let after = row.integrator;
+        let here = resumed(core, after);
+        let reached = here.state;
+        if answers::is_done(answer) & (row.events < count) {
+            let Decoded::Readable(event) = script::event_at(script, 8 + 12 * row.events) else {
+                return Played {
+                    answer: Answer::Script,
+                    events: row.events,
+                    samples: row.samples,
+                    state: reached,
+                };
+            };
+            let fed = here.feed(bundle, curves, event);
+            let told = fed.answer;
+            if answers::is_done(told) {
+                core = fed.core;
+                samples = row.samples;
+                i = row.events + 1;
+            } else {
+                return Played {
+                    answer: told,
+                    events: row.events,
+                    samples: row.samples,
+                    state: reached,
+                };
+            }
+        } else {
+            return Played {
+                answer,
+                events: row.events,
+                samples: row.samples,
+                state: reached,
+            };
+        }
+    }
+    let state = core.state;
+    Played {
+        answer: Answer::Done,
+        events: i,
+        samples,
+        state,
     }
 }
