@@ -2,3 +2,4 @@ pub mod Bytes
 pub mod Rows
 pub mod Cutting
 pub mod Loop
+pub mod Whole

@@ -218,7 +218,7 @@ step-few bundle curves s (Routing v) = rw (no-sample bundle curves s (Routing v)
 step-few bundle curves s (Mode v) = rw (no-sample bundle curves s (Mode v) refl) (omega arith)
 step-few bundle curves s Reset = rw (no-sample bundle curves s Reset refl) (omega arith)
 
-played-few : (bundle curves : List ℕ) (s : State) (es : List Event) → length (playOf bundle curves s es .samples) ≤ samplesOf es
+pub played-few : (bundle curves : List ℕ) (s : State) (es : List Event) → length (playOf bundle curves s es .samples) ≤ samplesOf es
 unfolding playOf samplesOf
 played-few bundle curves s [] = omega arith
 played-few bundle curves s (e ∷ es) = go (isDoneOf (plainStep bundle curves s e .answer)) (played-few bundle curves (plainStep bundle curves s e .state) es)
@@ -442,7 +442,7 @@ module _ (bundle curves script : List ℕ) (count : ℕ) (s₀ : State) (out₀ 
           goes-on h = (
             fed-kept .fresh,
             subst (λ (s : State). Sofar after s (r .samples) (r .events + 1)) (ap (λ (p : Plain). p .state) (sym fed-plain))
-            (event-done lent after (here .state) (r .samples) (r .events) there e more is other (answer-is true h)),
+                (event-done lent after (here .state) (r .samples) (r .events) there e more is other (answer-is true h)),
           )
 
           pub stops : b ≡ false → Finished (fed .answer) (r .events) (r .samples) (here .state) after

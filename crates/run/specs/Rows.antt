@@ -21,7 +21,8 @@ use Rattle.filter.specs.Core.{withIntegrator}
 use Rattle.run.specs.declared.Asked.{Asked}
 use Rattle.run.specs.declared.Row.{Row}
 use Rattle.run.specs.declared.Played.{Played}
-use Rattle.run.specs.Run.{Ran}
+use Rattle.run.specs.declared.Ended.{Ended}
+use Rattle.run.specs.Run.{Ran, Run}
 
 -- What an event asks of the filter: a sample with its two numbers, or no sample.
 abbrev pub notAsked : Asked
@@ -70,3 +71,7 @@ playEnd events samples r = record { answer = r .answer; events = events + r .eve
 -- the core with another integrator
 abbrev pub resumedOf : Core → IntegratorState → Core
 resumedOf k i = record { state = withIntegrator (k .state) i; topology = k .topology; controls = k .controls }
+
+-- what a run answers, without the bytes
+abbrev pub endedOf : Run → Ended
+endedOf r = record { answer = r .answer; events = r .events; samples = r .samples }

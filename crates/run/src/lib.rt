@@ -2,9 +2,10 @@
 ghost use mathlib.Core.Path.{_≡_};
 ghost use mathlib.Core.Bool.{true};
 ghost use Prim.Native.Nat.{_+_, _*_, _≤_};
-ghost use lib.ListN.{length, drop};
+ghost use lib.ListN.{length};
 ghost use Rattle.wire.specs.Wire.{putAt};
-ghost use Rattle.script.specs.Script.{slicesIn, allReadable, eventsIn, samplesOf};
+ghost use Rattle.control.specs.Block.{fieldsOf};
+ghost use Rattle.script.specs.Script.{allReadable, eventsIn, eventsOf, samplesOf};
 ghost use Rattle.script.proofs.Laws.{slicesFrom};
 ghost use Rattle.answers.specs.declared.Answer.the-variants.{Done};
 ghost use Rattle.filter.specs.Core.{judgeLentOf};
@@ -257,5 +258,103 @@ fn play(
         events: i,
         samples,
         state,
+    }
+}
+
+// ---- the run
+
+// The script's check, and room for its samples. Refuses 7, 8.
+fn judge_script(script: &[u8], room: usize) -> Answer
+    ensures { λ r. ⌜ r ≡ R.judgeScriptOf (now (script .entry)) room ⌝ }
+{
+    match script::check(script) {
+        Checked::WellFormed { events: _, samples } => {
+            answers::unless(samples <= room / 16, Answer::OutputLength)
+        }
+        Checked::Refused(answer) => answer,
+    }
+}
+
+// A valid block. Refuses 10.
+fn judge_block(block: &[u8]) -> Answer
+    ensures { λ r. ⌜ r ≡ R.judgeBlockOf (now (block .entry)) ⌝ }
+{
+    match State::decode(block) {
+        control::Decoded::Valid(state) => Answer::Done,
+        control::Decoded::Invalid => Answer::Argument,
+    }
+}
+
+// What is judged before the controls: 1, 2, 4, 10, 7, 8.
+fn judge_run(bundle: &[u8], curves: &[u8], block: &[u8], script: &[u8], room: usize) -> Answer
+    ensures { λ r. ⌜ r ≡ R.judgeRunOf (now (bundle .entry)) (now (curves .entry)) (now (block .entry)) (now (script .entry)) room ⌝ }
+{
+    let later = answers::first(judge_block(block), judge_script(script, room));
+    answers::first(filter::judge_lent(bundle, curves), later)
+}
+
+// The controls of the block's state, then the events.
+fn play_block(
+    bundle: &[u8],
+    curves: &[u8],
+    block: &[u8],
+    script: &[u8],
+    output: &mut [u8],
+) -> Played
+    requires { ⌜ R.judgeRunOf (now bundle) (now curves) (now block) (now script) (length (now output)) ≡ Done ⌝ }
+    ensures { λ r. ⌜ (r ≡ W.playEnd 0 0 (R.playedOf (now (bundle .entry)) (now (curves .entry)) (fieldsOf (now (block .entry))) (eventsOf (now (script .entry))))) × (now (output .exit) ≡ putAt (now (output .entry)) 0 (R.sampleBytes (R.playedOf (now (bundle .entry)) (now (curves .entry)) (fieldsOf (now (block .entry))) (eventsOf (now (script .entry))) .samples))) ⌝ }
+{
+    let control::Decoded::Valid(state) = State::decode(block) else {
+        return Played {
+            answer: Answer::Argument,
+            events: 0,
+            samples: 0,
+            state: State::new(),
+        };
+    };
+    let started = Core::start(bundle, curves, state);
+    let answer = started.answer;
+    let core = started.core;
+    if answers::is_done(answer) {
+        let count = wire::u32_at(script, 0) as usize;
+        return play(bundle, curves, core, script, count, output);
+    }
+    Played {
+        answer,
+        events: 0,
+        samples: 0,
+        state,
+    }
+}
+
+// Runs a script from the state in its block: the samples go into the output, the state after them into the block. It stops at the first refusal: 1, 2, 4, 10, 7, 8
+// leave everything, then come 3 and 6 of the controls, then 5, 9, 3 and 6 event by event, with what was done before them written.
+pub fn run(
+    bundle: &[u8],
+    curves: &[u8],
+    state: &mut [u8],
+    script: &[u8],
+    output: &mut [u8],
+) -> Ended
+    ensures { λ r. ⌜ r ≡ W.endedOf (R.runOf (now (bundle .entry)) (now (curves .entry)) (now (state .entry)) (now (script .entry)) (now (output .entry))) ⌝ }
+    ensures { λ _. ⌜ now (state .exit) ≡ R.runOf (now (bundle .entry)) (now (curves .entry)) (now (state .entry)) (now (script .entry)) (now (output .entry)) .state ⌝ }
+    ensures { λ _. ⌜ now (output .exit) ≡ R.runOf (now (bundle .entry)) (now (curves .entry)) (now (state .entry)) (now (script .entry)) (now (output .entry)) .output ⌝ }
+{
+    let judged = judge_run(bundle, curves, state, script, output.len());
+    if answers::is_done(judged) {
+        let p = play_block(bundle, curves, state, script, output);
+        let answer = p.answer;
+        let after = p.state;
+        after.encode(state);
+        return Ended {
+            answer,
+            events: p.events,
+            samples: p.samples,
+        };
+    }
+    Ended {
+        answer: judged,
+        events: 0,
+        samples: 0,
     }
 }
