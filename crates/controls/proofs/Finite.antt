@@ -76,3 +76,51 @@ output-finite r h =
       below-at (λ v. finite (K.PURE-BYPASS-OUTPUT-COMMON-MODE ⊗ fractionOf v)) 256 bypass v h,
       and-true,
     )
+
+-- ---- a code of at most 2,047, and a resonance of 0 to 255
+
+abbrev codeOf : ℕ → Float
+codeOf n = ofInt binary32 (pos n)
+
+high-couplings : below (λ n. finite (highPassLowCouplingOf (codeOf n))) 2048 ≡ true
+unfolding below ofInt ofBits add div
+high-couplings = refl
+
+band-couplings : below (λ n. finite (bandPassLowCouplingOf (codeOf n))) 2048 ≡ true
+unfolding below ofInt ofBits mul add div
+band-couplings = refl
+
+pub high-coupling-finite : (n : ℕ) → n < 2048 → finite (highPassLowCouplingOf (codeOf n)) ≡ true
+high-coupling-finite n h = below-at (λ n. finite (highPassLowCouplingOf (codeOf n))) 2048 high-couplings n h
+
+pub band-coupling-finite : (n : ℕ) → n < 2048 → finite (bandPassLowCouplingOf (codeOf n)) ≡ true
+band-coupling-finite n h = below-at (λ n. finite (bandPassLowCouplingOf (codeOf n))) 2048 band-couplings n h
+
+positions : below (λ r. finite (resonancePositionOf r)) 256 ≡ true
+unfolding below ofInt ofBits div
+positions = refl
+
+feedbacks : below (λ r. finite (feedbackScaleOf (resonancePositionOf r))) 256 ≡ true
+unfolding below ofInt ofBits mul add div
+feedbacks = refl
+
+modulations : below (λ r. finite (modulationScaleOf (resonancePositionOf r))) 256 ≡ true
+unfolding below ofInt ofBits mul add sub div
+modulations = refl
+
+lifts : below (λ r. finite (resonanceOutputGainOf (liftPositionOf (resonancePositionOf r)))) 256 ≡ true
+unfolding below ofInt ofBits mul add sub div lt
+lifts = refl
+
+module _ (r : ℕ) (h : r < 256) where
+  pub position-finite : finite (resonancePositionOf r) ≡ true
+  position-finite = below-at (λ r. finite (resonancePositionOf r)) 256 positions r h
+
+  pub feedback-finite : finite (feedbackScaleOf (resonancePositionOf r)) ≡ true
+  feedback-finite = below-at (λ r. finite (feedbackScaleOf (resonancePositionOf r))) 256 feedbacks r h
+
+  pub modulation-finite : finite (modulationScaleOf (resonancePositionOf r)) ≡ true
+  modulation-finite = below-at (λ r. finite (modulationScaleOf (resonancePositionOf r))) 256 modulations r h
+
+  pub lift-finite : finite (resonanceOutputGainOf (liftPositionOf (resonancePositionOf r))) ≡ true
+  lift-finite = below-at (λ r. finite (resonanceOutputGainOf (liftPositionOf (resonancePositionOf r)))) 256 lifts r h
