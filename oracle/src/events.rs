@@ -57,6 +57,10 @@ mod proved {
             event: *const u8,
             event_len: usize,
         ) -> Given;
+    }
+
+    #[link(name = "probe_lists", kind = "static")]
+    unsafe extern "C" {
         fn probe_cores(
             bundle: *const u8,
             bundle_len: usize,

@@ -2,8 +2,8 @@ use Prim.Native.Nat.{_-_, _≤_}
 use mathlib.Core.Path.{_≡_}
 use lib.ListN.{length}
 use borrow.Author.Needs.{needs}
-use Rattle.probe.proofs.cores.probe_cores.Statement.{statement}
-use Rattle.probe.proofs.cores.probe_cores.Tie as tie
+use Rattle.probe_lists.proofs.probe_cores.Statement.{statement}
+use Rattle.probe_lists.proofs.probe_cores.Tie as tie
 
 abbrev Inv-loop : tie.InvT-loop
 Inv-loop bundle curves block script out₀ fed₀ count i₀ out fed i = (i ≤ count) × (count ≤ 65536) × (length out ≡ length out₀)
