@@ -17,6 +17,12 @@ use Rattle.sample.specs.declared.Outputs.{Outputs}
 use Rattle.sample.specs.declared.Sampled.{Sampled}
 use Rattle.sample.specs.declared.Sampled.the-variants.{Taken, Refused}
 use Rattle.sample.specs.Sample.{sampleOf}
+use Rattle.sample.specs.Kept.{cacheOf, restOf, sampleKeptOf}
+use Rattle.sample.proofs.Kept.{kept-is-sample}
+use Rattle.controls.specs.declared.CoreControls.{CoreControls}
+use Rattle.controls.specs.Kept.{coreControlsOf}
+use Rattle.bundle.specs.declared.Read.{Read}
+use lib.Ieee.{Float}
 use Rattle.script.specs.declared.Event.{Event}
 use Rattle.script.specs.declared.Event.the-variants.{CutoffLow, CutoffHigh, Routing, Mode, Sample, Reset}
 use Rattle.script.specs.declared.Decoded.the-variants.{Readable, Unreadable}
@@ -28,6 +34,13 @@ use Rattle.run.specs.declared.Row.{Row}
 use Rattle.run.specs.Run.{outputBytes, sampleBytes}
 use Rattle.run.specs.Rows.{Samples, askedOf, noSamples, oneMore, rowOn, rowOf, rowEnd}
 use Rattle.run.proofs.Bytes.{length-outputs, length-output}
+
+-- ---- a sample on the kept parts
+
+pub kept-sample :
+    (bundle curves : List ℕ) (t : MixingTopology) (c : ControlCache) (mode : ℕ) {k : CoreControls} {rest : Read} → k ≡ coreControlsOf (c .filter) → rest ≡ restOf bundle t → (i : IntegratorState) (sum energy : Float)
+    → sampleKeptOf curves t (cacheOf (c .filter .«integrator_gain») (c .filter .«input_drive») (c .filter .«feedback_drive») k (c .«mode_output_gain»)) rest mode i sum energy ≡ sampleOf bundle curves t c mode i sum energy
+kept-sample bundle curves t c mode hk hr i sum energy = rw (hk, hr) (kept-is-sample bundle curves t c mode i sum energy)
 
 -- ---- the samples among events
 

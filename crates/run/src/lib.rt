@@ -115,6 +115,12 @@ fn play_samples(
     requires { ⌜ (start ≤ count) × (count ≤ 65536) × (before ≤ start) × (allReadable (slicesFrom (now script) count start) ≡ true) × (16 * (before + samplesOf (eventsIn (slicesFrom (now script) count start))) ≤ length (now output)) ⌝ }
     ensures { λ r. ⌜ (r ≡ W.rowEnd start before (W.rowOf (now (bundle .entry)) (now (curves .entry)) topology controls mode from (eventsIn (slicesFrom (now (script .entry)) count start)))) × (now (output .exit) ≡ putAt (now (output .entry)) (16 * before) (R.sampleBytes (W.rowOf (now (bundle .entry)) (now (curves .entry)) topology controls mode from (eventsIn (slicesFrom (now (script .entry)) count start)) .outputs))) ⌝ }
 {
+    let filter = controls.filter;
+    let gains = filter.integrator_gain;
+    let input_drives = filter.input_drive;
+    let feedback_drives = filter.feedback_drive;
+    let core = controls::core_controls(filter);
+    let rest = sample::rest_of(bundle, topology);
     let mut integrator = from;
     let mut samples = before;
     let mut i = start;
@@ -129,11 +135,15 @@ fn play_samples(
         };
         let ask = asks(event);
         if ask.sample {
-            match sample::sample(
-                bundle,
+            match sample::sample_kept(
                 curves,
                 topology,
-                controls,
+                &gains,
+                &input_drives,
+                &feedback_drives,
+                core,
+                controls.mode_output_gain,
+                rest,
                 mode,
                 integrator,
                 ask.input_sum,

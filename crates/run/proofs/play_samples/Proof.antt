@@ -1,22 +1,27 @@
 use Prim.Native.Nat.{_-_}
 use native.Mathlib.Omega.{arith}
-use mathlib.Core.Path.{_≡_, sym, ap, _∙_}
-use denote.Ref.{now}
+use mathlib.Core.Path.{_≡_, sym, _∙_}
 use borrow.Author.Needs.{needs}
-use Rattle.run.proofs.Rows.{Sofar, sofar-start, unreadable, other, refused, turned, at-end}
+use Rattle.run.proofs.Rows.{kept-sample, Sofar, sofar-start, unreadable, other, refused, turned, at-end}
 use Rattle.run.proofs.play_samples.Statement.{statement}
 use Rattle.run.proofs.play_samples.Tie as tie
 
 abbrev Inv-loop : tie.InvT-loop
-Inv-loop bundle curves topology controls mode script start count output₀ before integrator₀ samples₀ i₀ output integrator samples i =
+Inv-loop bundle curves topology controls mode script start count output₀ before gains input-drives feedback-drives core rest integrator₀ samples₀ i₀ output integrator samples i =
     Sofar bundle curves topology controls mode script count start before output₀ integrator₀ output integrator samples i
 
 abbrev μ-loop : tie.MeasureT-loop
-μ-loop bundle curves topology controls mode script start count output₀ before integrator₀ samples₀ i₀ output integrator samples i = count - i
+μ-loop bundle curves topology controls mode script start count output₀ before gains input-drives feedback-drives core rest integrator₀ samples₀ i₀ output integrator samples i = count - i
+
+core-controls-requires : tie.Need-core-controls-requires Inv-loop μ-loop
+core-controls-requires c κs = search needs
+
+rest-of-requires : tie.Need-rest-of-requires Inv-loop μ-loop
+rest-of-requires c κs = search needs
 
 loop-holds : tie.Need-loop-holds Inv-loop μ-loop
 loop-holds c =
-    let z = c .before .before .before .before in
+    let z = c .before .before .before .before .before .before .before .before .before .before in
     sofar-start _ _ _ _ _ _ _ _ _ _ _ (z .pre .0) (z .pre .2) (z .pre .3) (z .pre .4)
 
 mul-event-at : tie.Need-mul-event-at Inv-loop μ-loop
@@ -45,48 +50,54 @@ returns c =
 asks-requires : tie.Need-asks-requires Inv-loop μ-loop
 asks-requires c κs = search needs
 
-sample-requires : tie.Need-sample-requires Inv-loop μ-loop
-sample-requires c κs = search needs
+sample-kept-requires : tie.Need-sample-kept-requires Inv-loop μ-loop
+sample-kept-requires c κs = search needs
 
 enum-known-outputs : tie.Need-enum-known-outputs Inv-loop μ-loop
 enum-known-outputs c = search needs
 
 mul-put-outputs : tie.Need-mul-put-outputs Inv-loop μ-loop
-mul-put-outputs c = search needs
+mul-put-outputs c =
+    let l = c .before .before .before .before .before .before .before .before .before .before .before .before .before .before .before in
+    let few = l .loop .inv .few in
+    let within = l .loop .inv .within in
+    let most = l .before .before .before .before .before .before .before .before .before .before .before .pre .1 in
+    record { fits = omega arith }
 
 put-outputs-requires : tie.Need-put-outputs-requires Inv-loop μ-loop
 put-outputs-requires c κs = search needs
 
 add-samples : tie.Need-add-samples Inv-loop μ-loop
 add-samples c =
-    let l = c .before .before .before .before .before .before .before .before .before .before .before .before .before .before .before in
+    let l = c .before .before .before .before .before .before .before .before .before .before .before .before .before .before .before .before .before .before in
     let few = l .loop .inv .few in
     let within = l .loop .inv .within in
-    let most = l .before .before .before .before .before .pre .1 in
+    let most = l .before .before .before .before .before .before .before .before .before .before .before .pre .1 in
     record { fits = omega arith }
 
 add-i : tie.Need-add-i Inv-loop μ-loop
 add-i c =
-    let l = c .before .before .before .before .before .before .before .before .before .before .before .before .before .before .before in
+    let l = c .before .before .before .before .before .before .before .before .before .before .before .before .before .before .before .before .before .before in
     let few = l .loop .inv .few in
     let within = l .loop .inv .within in
-    let most = l .before .before .before .before .before .pre .1 in
+    let most = l .before .before .before .before .before .before .before .before .before .before .before .pre .1 in
     record { fits = omega arith }
 
 loop-less : tie.Need-loop-less Inv-loop μ-loop
 loop-less c =
-    let l = c .before .before .before .before .before .before .before .before .before .before .before .before .before .before in
-    let more = l .loop-test .taken in
+    let more = c .before .before .before .before .before .before .before .before .before .before .before .before .before .before .before .before .before .loop-test .taken in
     omega arith
 
 loop-again : tie.Need-loop-again Inv-loop μ-loop
 loop-again c =
     let o = c .before .before .before .before .before in
     let s = o .before .before in
-    let v = s .before .before .before .before in
+    let v = s .before .before .before .before .before .before .before in
     let e = v .before .before in
+    let l = e .before .before in
     rw (c .before .before .put-outputs .ensures)
-    (turned _ _ _ _ _ _ _ _ _ _ _ _ _ _ _ (e .before .before .loop .inv) (e .before .loop-test .taken) (v .event .given .0 .0) (sym (e .event-at .ensures) ∙ v .event .given .1) (s .before .before .asks .ensures) (s .before .if1 .taken) _ _ (s .sample .ensures) (o .outputs .given .1))
+    (turned _ _ _ _ _ _ _ _ _ _ _ _ _ _ _ (l .loop .inv) (e .before .loop-test .taken) (v .event .given .0 .0) (sym (e .event-at .ensures) ∙ v .event .given .1) (s .before .before .before .before .before .asks .ensures) (s .before .before .before .before .if1 .taken) _ _
+    (s .sample-kept .ensures ∙ kept-sample _ _ _ _ _ (l .before .before .core-controls .ensures) (l .before .rest-of .ensures) _ _ _) (o .outputs .given .1))
 
 enum-known-answer : tie.Need-enum-known-answer Inv-loop μ-loop
 enum-known-answer c = search needs
@@ -97,9 +108,11 @@ same-length-2 c = search needs
 returns-2 : tie.Need-returns-2 Inv-loop μ-loop
 returns-2 c =
     let s = c .before .before .before in
-    let v = s .before .before .before .before in
+    let v = s .before .before .before .before .before .before .before in
     let e = v .before .before in
-    refused _ _ _ _ _ _ _ _ _ _ _ _ _ _ _ (e .before .before .loop .inv) (e .before .loop-test .taken) (v .event .given .0 .0) (sym (e .event-at .ensures) ∙ v .event .given .1) (s .before .before .asks .ensures) (s .before .if1 .taken) _ (s .sample .ensures) (c .before .answer .given .1)
+    let l = e .before .before in
+    refused _ _ _ _ _ _ _ _ _ _ _ _ _ _ _ (l .loop .inv) (e .before .loop-test .taken) (v .event .given .0 .0) (sym (e .event-at .ensures) ∙ v .event .given .1) (s .before .before .before .before .before .asks .ensures) (s .before .before .before .before .if1 .taken) _
+    (s .sample-kept .ensures ∙ kept-sample _ _ _ _ _ (l .before .before .core-controls .ensures) (l .before .rest-of .ensures) _ _ _) (c .before .answer .given .1)
 
 same-length-3 : tie.Need-same-length-3 Inv-loop μ-loop
 same-length-3 c = search needs
@@ -122,6 +135,8 @@ play-samples-spec =
     (tie.spec
     Inv-loop
     μ-loop
+    core-controls-requires
+    rest-of-requires
     loop-holds
     mul-event-at
     add-event-at
@@ -131,7 +146,7 @@ play-samples-spec =
     same-length
     returns
     asks-requires
-    sample-requires
+    sample-kept-requires
     enum-known-outputs
     mul-put-outputs
     put-outputs-requires
