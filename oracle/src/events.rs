@@ -345,6 +345,7 @@ fn is_ready(t: &MixingTopology, c: &ControlCache) -> bool {
     let numbers = [
         t.filter_input_reciprocal,
         t.summer_input_reciprocal,
+        t.mixer_input_reciprocal,
         c.damping,
         c.source_gain_modulation,
         c.high_pass_low_coupling,
@@ -354,9 +355,16 @@ fn is_ready(t: &MixingTopology, c: &ControlCache) -> bool {
         c.source_modulation_resonance_scale,
         c.resonance_output_gain,
         c.mode_output_gain,
+        c.filter_common_mode,
+        c.volume_fraction,
+        c.two_voice_volume_gain_offset,
+        c.combined_common_mode_gain,
+        c.pure_bypass_common_mode_gain,
+        c.scaled_filter_common_mode,
     ];
     let finite = tables.as_flattened().iter().chain(&numbers).all(|x| x.is_finite());
-    finite && t.filter_input_count <= 4 && t.filter_output_count <= 3
+    let indexed = c.effective_cutoff_index <= 2047 && c.resonance_index <= 15;
+    finite && indexed && t.filter_input_count <= 4 && t.filter_output_count <= 3
 }
 
 fn is_valid(r: &FilterRegisters, s: &IntegratorState) -> bool {

@@ -23,7 +23,7 @@ use Rattle.mixing.proofs.Facts.{filter-most, output-most, mixer-most}
 use Rattle.control.specs.declared.State.{State}
 use Rattle.control.specs.Registers.{startingState, effectiveCutoffOf, writeCutoffLowOf, writeCutoffHighOf, writeSignalRoutingOf, writeModeAndVolumeOf}
 use Rattle.control.specs.Block.{validOf, finiteFloats}
-use Rattle.control.proofs.Valid.{Ranges, valid-ranges, floats-valid, low-valid, high-valid, routing-valid, mode-valid, starting-valid}
+use Rattle.control.proofs.Valid.{Ranges, valid-ranges, effective-within, floats-valid, low-valid, high-valid, routing-valid, mode-valid, starting-valid}
 use Rattle.controls.specs.declared.FilterControls.{FilterControls}
 use Rattle.controls.specs.declared.ControlCache.{ControlCache}
 use Rattle.controls.specs.Controls.{filterControlsOf, modeGainOf, outputControlsOf, controlsOf}
@@ -38,7 +38,7 @@ use Rattle.script.specs.declared.Event.the-variants.{CutoffLow, CutoffHigh, Rou
 use Rattle.filter.specs.declared.Core.{Core}
 use Rattle.filter.specs.declared.Written.{Written}
 use Rattle.filter.specs.declared.Fed.{Fed}
-use Rattle.filter.specs.Core.{freshTopologyOf, coreOf, judgeLentOf, judgeStateOf, judgeWriteOf, judgeCoreOf, countableOf, finiteGainsOf, settledOf, quietOf, withIntegrator, afterOf, startAnswerOf, startedOf, refreshedOf, reselectedOf, lowWrittenOf, highWrittenOf, routingWrittenOf, modeWrittenOf, resetOf, sampledOf, fedOf}
+use Rattle.filter.specs.Core.{freshTopologyOf, coreOf, judgeLentOf, judgeStateOf, judgeWriteOf, judgeCoreOf, countableOf, soundOf, settledOf, quietOf, withIntegrator, afterOf, startAnswerOf, startedOf, refreshedOf, reselectedOf, lowWrittenOf, highWrittenOf, routingWrittenOf, modeWrittenOf, resetOf, sampledOf, fedOf}
 use Rattle.filter.specs.Plain.{Plain, plainStart, plainChange, plainTaken, plainSample, plainStep, plainTrace}
 use Rattle.filter.specs.Lists.{coreTrace, shown, shownAll, Fresh, AllFresh}
 
@@ -50,10 +50,9 @@ pub record Kept (bundle : List ℕ) (k : Core) : Type 0 where
 
 -- ---- controls that are not refused
 
-three : (a b c : Bool) → (a && b && c) ≡ true → (a ≡ true) × (b ≡ true)
-three true true c h = (refl, refl)
-three true false c h = (refl, h)
-three false b c h = (h, cc)
+first-of : (a b c : Bool) → (a && b && c) ≡ true → a ≡ true
+first-of true b c h = refl
+first-of false b c h = h
 
 module _ (bundle : List ℕ) (s : State) (judged : judgeControlsOf bundle s ≡ Done) where
   filter-usable : judgeFilterOf bundle (effectiveCutoffOf s) (s .registers .resonance) ≡ Done
@@ -68,11 +67,11 @@ module _ (bundle : List ℕ) (s : State) (judged : judgeControlsOf bundle s ≡ 
       let p = first-done (judgeFilterOf bundle (effectiveCutoffOf s) (s .registers .resonance)) later judged in
       unless-done (finiteControlsOf (controlsOf bundle s)) Domain refl (first-done (judgeModeOf bundle (s .registers) (effectiveCutoffOf s)) domain (p .1) .1)
 
-  gains-finite : (finiteFilterOf (controlsOf bundle s .filter) ≡ true) × (finite (controlsOf bundle s .«mode_output_gain») ≡ true)
+  kept-finite : finiteFilterOf (controlsOf bundle s .filter) ≡ true
   unfolding finiteControlsOf
-  gains-finite =
+  kept-finite =
       let c = controlsOf bundle s in
-      three (finiteFilterOf (c .filter)) (finite (c .«mode_output_gain»)) (finiteOutputOf (c .output)) all-finite
+      first-of (finiteFilterOf (c .filter)) (finite (c .«mode_output_gain»)) (finiteOutputOf (c .output)) all-finite
 
 -- ---- a write or a reset
 
@@ -130,7 +129,7 @@ module _ (bundle : List ℕ) (k : Core) (opened : checkOf bundle ≡ Done) (kept
 
   filter-finite : finiteFilterOf kept-filter ≡ true
   unfolding controlsOf
-  filter-finite = gains-finite bundle (k .state) (kept .judged) .0
+  filter-finite = kept-finite bundle (k .state) (kept .judged)
 
   module _ (v : ℕ) where
     abbrev selected : State
@@ -182,7 +181,7 @@ sample-refuses bundle curves t c mode i sum energy =
     go judged x false h r = rw h refl
 
 -- the reciprocals of a topology's counts
-reciprocal-finite : (n : ℕ) → n ≤ 6 → finite (reciprocalOf n) ≡ true
+reciprocal-finite : (n : ℕ) → n ≤ 7 → finite (reciprocalOf n) ≡ true
 unfolding reciprocalOf ofInt div ofBits
 reciprocal-finite zero h = refl
 reciprocal-finite (suc zero) h = refl
@@ -191,14 +190,15 @@ reciprocal-finite (suc (suc (suc zero))) h = refl
 reciprocal-finite (suc (suc (suc (suc zero)))) h = refl
 reciprocal-finite (suc (suc (suc (suc (suc zero))))) h = refl
 reciprocal-finite (suc (suc (suc (suc (suc (suc zero)))))) h = refl
-reciprocal-finite (suc (suc (suc (suc (suc (suc (suc n))))))) h = absurd (omega (arith, h))
+reciprocal-finite (suc (suc (suc (suc (suc (suc (suc zero))))))) h = refl
+reciprocal-finite (suc (suc (suc (suc (suc (suc (suc (suc n)))))))) h = absurd (omega (arith, h))
 
 fresh-countable : (routing mode : ℕ) → countableOf (topologyOf routing mode) ≡ true
 unfolding topologyOf
 fresh-countable routing mode =
     let n = filterCountOf routing in
     let h = filter-most routing in
-    rw (le-leb n 4 h, le-leb (outputCountOf mode) 3 (output-most mode), reciprocal-finite n (omega (arith, h)), reciprocal-finite (2 + n) (omega (arith, h))) refl
+    rw (le-leb n 4 h, le-leb (outputCountOf mode) 3 (output-most mode), reciprocal-finite n (omega (arith, h)), reciprocal-finite (2 + n) (omega (arith, h)), reciprocal-finite (mixerCountOf routing mode) (mixer-most routing mode)) refl
 
 module _ (bundle curves : List ℕ) (s : State) (sum energy : Float) (lent : judgeLentOf bundle curves ≡ Done) (valid : validOf s ≡ true) (judged : judgeControlsOf bundle s ≡ Done) where
   abbrev sampled : Sampled
@@ -207,8 +207,12 @@ module _ (bundle curves : List ℕ) (s : State) (sum energy : Float) (lent : jud
   fresh-kept : Kept bundle (coreOf bundle s)
   fresh-kept = record { valid = valid; fresh = refl; judged = judged }
 
+  fresh-sound : soundOf (controlsOf bundle s) ≡ true
+  unfolding controlsOf filterControlsOf
+  fresh-sound = rw (le-leb (effectiveCutoffOf s) 2047 (effective-within s), le-leb (s .registers .resonance) 15 (valid-ranges s valid .resonance)) (all-finite bundle s judged)
+
   core-judged : judgeCoreOf bundle curves (coreOf bundle s) ≡ Done
-  core-judged = rw (lent, valid, fresh-countable (s .registers .routing) (s .registers .mode), gains-finite bundle s judged .0, gains-finite bundle s judged .1) refl
+  core-judged = rw (lent, valid, fresh-countable (s .registers .routing) (s .registers .mode), fresh-sound) refl
 
   after-kept : (i : IntegratorState) → finiteFloats i ≡ true → Kept bundle (record { state = withIntegrator s i; topology = freshTopologyOf s; controls = controlsOf bundle s })
   unfolding controlsOf judgeControlsOf

@@ -20,7 +20,7 @@ use Rattle.control.specs.Registers.{startingState, effectiveCutoffOf, writeCuto
 use Rattle.control.specs.Block.{validOf}
 use Rattle.controls.specs.declared.ControlCache.{ControlCache}
 use Rattle.controls.specs.Controls.{modeGainOf, outputControlsOf, controlsOf}
-use Rattle.controls.specs.Judging.{judgeModeOf, judgeControlsOf, finiteFilterOf, finiteOutputOf}
+use Rattle.controls.specs.Judging.{judgeModeOf, judgeControlsOf, finiteOutputOf, finiteControlsOf}
 use Rattle.sample.specs.declared.Outputs.{Outputs}
 use Rattle.sample.specs.declared.Sampled.{Sampled}
 use Rattle.sample.specs.declared.Sampled.the-variants.{Taken, Refused}
@@ -51,15 +51,20 @@ judgeStateOf s = unlessOf (validOf s) Argument
 abbrev pub judgeWriteOf : List ℕ → Core → Answer
 judgeWriteOf bundle k = firstOf (checkOf bundle) (judgeStateOf (k .state))
 
--- a sample reads counts, reciprocals and gains too: the chip has four inputs and three outputs, and floats are finite
+-- a sample reads what is kept: no index past its table (the chip has four inputs and three outputs), and every float finite
 abbrev pub countableOf : MixingTopology → Bool
-countableOf t = leb (t .«filter_input_count») 4 && leb (t .«filter_output_count») 3 && finite (t .«filter_input_reciprocal») && finite (t .«summer_input_reciprocal»)
+countableOf t =
+    leb (t .«filter_input_count») 4
+    && leb (t .«filter_output_count») 3
+    && finite (t .«filter_input_reciprocal»)
+    && finite (t .«summer_input_reciprocal»)
+    && finite (t .«mixer_input_reciprocal»)
 
-abbrev pub finiteGainsOf : ControlCache → Bool
-finiteGainsOf c = finiteFilterOf (c .filter) && finite (c .«mode_output_gain»)
+abbrev pub soundOf : ControlCache → Bool
+soundOf c = leb (c .filter .«effective_cutoff_index») 2047 && leb (c .filter .«resonance_index») 15 && finiteControlsOf c
 
 abbrev pub judgeCoreOf : List ℕ → List ℕ → Core → Answer
-judgeCoreOf bundle curves k = firstOf (judgeLentOf bundle curves) (unlessOf (validOf (k .state) && countableOf (k .topology) && finiteGainsOf (k .controls)) Argument)
+judgeCoreOf bundle curves k = firstOf (judgeLentOf bundle curves) (unlessOf (validOf (k .state) && countableOf (k .topology) && soundOf (k .controls)) Argument)
 
 -- ---- what an event hands back
 

@@ -45,7 +45,7 @@ fn judge_state(state: State) -> Answer
     answers::unless(state.is_valid(), Answer::Argument)
 }
 
-// The counts and reciprocals that a sample reads.
+// Counts that the chip has, and finite reciprocals.
 fn countable(topology: MixingTopology) -> bool
     ensures { λ r. ⌜ r ≡ F.countableOf topology ⌝ }
 {
@@ -53,13 +53,17 @@ fn countable(topology: MixingTopology) -> bool
         & (topology.filter_output_count <= 3)
         & floats::is_finite(topology.filter_input_reciprocal)
         & floats::is_finite(topology.summer_input_reciprocal)
+        & floats::is_finite(topology.mixer_input_reciprocal)
 }
 
-fn finite_gains(controls: ControlCache) -> bool
-    ensures { λ r. ⌜ r ≡ F.finiteGainsOf controls ⌝ }
+// Indexes within their tables, and finite controls.
+fn sound(controls: ControlCache) -> bool
+    ensures { λ r. ⌜ r ≡ F.soundOf controls ⌝ }
 {
     let filter = controls.filter;
-    controls::finite_filter(filter) & floats::is_finite(controls.mode_output_gain)
+    (filter.effective_cutoff_index <= 2047)
+        & (filter.resonance_index <= 15)
+        & controls::finite_controls(controls)
 }
 
 // The topology of a state.
@@ -167,7 +171,7 @@ impl Core {
         let state = self.state;
         let topology = self.topology;
         let controls = self.controls;
-        let ready = state.is_valid() & countable(topology) & finite_gains(controls);
+        let ready = state.is_valid() & countable(topology) & sound(controls);
         answers::first(
             judge_lent(bundle, curves),
             answers::unless(ready, Answer::Argument),

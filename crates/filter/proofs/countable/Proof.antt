@@ -8,8 +8,12 @@ is-finite-requires c κs = search needs
 is-finite-requires-2 : tie.Need-is-finite-requires-2
 is-finite-requires-2 c κs = search needs
 
+is-finite-requires-3 : tie.Need-is-finite-requires-3
+is-finite-requires-3 c κs = search needs
+
 returns : tie.Need-returns
-returns c = simp (c .is-finite2 .ensures, c .before .is-finite .ensures)
+returns c = simp (c .is-finite3 .ensures, c .before .is-finite2 .ensures, c .before .before .is-finite .ensures)
 
 pub countable-spec : {M : Type 1} → statement M
-countable-spec = tie.close (tie.spec is-finite-requires is-finite-requires-2 returns)
+countable-spec =
+    tie.close (tie.spec is-finite-requires is-finite-requires-2 is-finite-requires-3 returns)

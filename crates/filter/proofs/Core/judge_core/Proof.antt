@@ -8,8 +8,8 @@ is-valid-requires c κs = search needs
 countable-requires : tie.Need-countable-requires
 countable-requires c κs = search needs
 
-finite-gains-requires : tie.Need-finite-gains-requires
-finite-gains-requires c κs = search needs
+sound-requires : tie.Need-sound-requires
+sound-requires c κs = search needs
 
 judge-lent-requires : tie.Need-judge-lent-requires
 judge-lent-requires c κs = search needs
@@ -21,7 +21,7 @@ first-requires : tie.Need-first-requires
 first-requires c κs = search needs
 
 returns : tie.Need-returns
-returns c = simp (c .first .ensures, c .before .unless .ensures, c .before .before .judge-lent .ensures, c .before .before .before .finite-gains .ensures, c .before .before .before .before .countable .ensures, c .before .before .before .before .before .is-valid .ensures)
+returns c = simp (c .first .ensures, c .before .unless .ensures, c .before .before .judge-lent .ensures, c .before .before .before .sound .ensures, c .before .before .before .before .countable .ensures, c .before .before .before .before .before .is-valid .ensures)
 
 pub judge-core-spec : {M : Type 1} → statement M
 judge-core-spec =
@@ -29,7 +29,7 @@ judge-core-spec =
     (tie.spec
     is-valid-requires
     countable-requires
-    finite-gains-requires
+    sound-requires
     judge-lent-requires
     unless-requires
     first-requires

@@ -1,0 +1,12 @@
+use borrow.Author.Needs.{needs}
+use Rattle.filter.proofs.sound.Statement.{statement}
+use Rattle.filter.proofs.sound.Tie as tie
+
+finite-controls-requires : tie.Need-finite-controls-requires
+finite-controls-requires c κs = search needs
+
+returns : tie.Need-returns
+returns c = simp (c .finite-controls .ensures)
+
+pub sound-spec : {M : Type 1} → statement M
+sound-spec = tie.close (tie.spec finite-controls-requires returns)
