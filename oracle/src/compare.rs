@@ -10,6 +10,8 @@ mod core;
 mod direct;
 mod kept;
 mod numbers;
+mod plain;
+mod run;
 mod sample;
 mod state;
 mod surface;
@@ -21,6 +23,7 @@ fn main() {
     subjects.extend(sample::compare());
     subjects.extend(direct::compare());
     subjects.extend(core::compare());
+    subjects.extend(run::compare());
     let mut differences = 0;
     for (name, tally) in &subjects {
         println!("{name}: {} compared, {} differences", tally.compared, tally.differences);
