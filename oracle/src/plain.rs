@@ -75,7 +75,7 @@ pub fn decode(block: &[u8]) -> Result<State, Refusal> {
 }
 
 /// The events of a readable script, 12 bytes each; 7 for any other.
-fn check_script(script: &[u8]) -> Result<std::slice::ChunksExact<'_, u8>, Refusal> {
+pub fn check_script(script: &[u8]) -> Result<std::slice::ChunksExact<'_, u8>, Refusal> {
     if script.len() < 8 || u32_at(script, 4) != 8 || u32_at(script, 0) > 65_536 || script.len() != 8 + 12 * u32_at(script, 0) as usize {
         return Err(number(7));
     }

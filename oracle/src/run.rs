@@ -3,63 +3,17 @@
 //! has room also in pieces. The room of state and output lies between bytes that must stay.
 
 use crate::filter::Filter;
-use crate::kept::block;
+use crate::kept::{filter_block, play};
 use crate::numbers::{Random, Tally};
-use crate::plain::{decode, Machine, State, BUNDLE_LENGTH, CURVES_LENGTH};
-use crate::surface::proved::Answer;
+use crate::plain::{check_script, decode, Machine, State, BUNDLE_LENGTH, CURVES_LENGTH};
+use crate::surface::proved::{self, Answer};
 use crate::surface::{curves_of, data};
-
-mod proved {
-    use super::Answer;
-
-    #[cfg(not(stand_in))]
-    #[link(name = "sid_filter", kind = "static")]
-    unsafe extern "C" {
-        fn sid_filter_run(
-            bundle: *const u8,
-            bundle_len: usize,
-            curves: *const u8,
-            curves_len: usize,
-            state: *mut u8,
-            state_len: usize,
-            script: *const u8,
-            script_len: usize,
-            output: *mut u8,
-            output_len: usize,
-        ) -> Answer;
-    }
-
-    #[cfg(not(stand_in))]
-    pub fn run(bundle: &[u8], curves: &[u8], state: &mut [u8], script: &[u8], output: &mut [u8]) -> Answer {
-        unsafe {
-            sid_filter_run(
-                bundle.as_ptr(),
-                bundle.len(),
-                curves.as_ptr(),
-                curves.len(),
-                state.as_mut_ptr(),
-                state.len(),
-                script.as_ptr(),
-                script.len(),
-                output.as_mut_ptr(),
-                output.len(),
-            )
-        }
-    }
-
-    #[cfg(stand_in)]
-    pub fn run(bundle: &[u8], curves: &[u8], state: &mut [u8], script: &[u8], output: &mut [u8]) -> Answer {
-        crate::plain::Machine::new(bundle, curves).run(state, script, output)
-    }
-}
 
 pub fn compare() -> Vec<(&'static str, Tally)> {
     let mut beside = Beside::new();
-    let subjects = vec![
+    let mut subjects = vec![
         ("runs, random scripts", random_scripts(&mut beside)),
         ("runs, all scripts of up to two events", small_scripts(&mut beside)),
-        ("runs, cut into pieces", std::mem::take(&mut beside.cut)),
-        ("runs, beside the Rust's filter", std::mem::take(&mut beside.kept)),
         ("runs, state blocks", blocks(&mut beside)),
         ("runs, unreadable scripts", unreadable(&mut beside)),
         ("runs, output lengths", outputs(&mut beside)),
@@ -68,6 +22,8 @@ pub fn compare() -> Vec<(&'static str, Tally)> {
         ("runs, several flaws at once", flaws(&mut beside)),
         ("runs, what is lent to be read and each number reached", beside.ended()),
     ];
+    subjects.push(("runs, cut into pieces", beside.cut));
+    subjects.push(("runs, beside the Rust's filter", beside.kept));
     println!("runs: {} with {} events and {} samples done", beside.runs, beside.events, beside.samples);
     println!("runs by number: {}", (0..11).map(|number| format!("{number}: {}", beside.numbers[number])).collect::<Vec<_>>().join(", "));
     subjects
@@ -153,10 +109,10 @@ impl Beside {
         }
     }
 
-    /// One run on both sides; what the proved one left.
-    fn run(&mut self, tally: &mut Tally, [bundle, curves]: [&[u8]; 2], block: &[u8], script: &[u8], length: usize) -> Left {
-        let ours = left(block, length, |state, output| proved::run(bundle, curves, state, script, output));
-        let theirs = left(block, length, |state, output| Machine::new(bundle, curves).run(state, script, output));
+    /// One run on both sides, and where the script is readable and the output has room also in pieces; what the proved one left.
+    fn run(&mut self, tally: &mut Tally, lent: [&[u8]; 2], block: &[u8], script: &[u8], length: usize) -> Left {
+        let ours = left(block, length, |state, output| proved::run(lent[0], lent[1], state, script, output));
+        let theirs = left(block, length, |state, output| Machine::new(lent[0], lent[1]).run(state, script, output));
         tally.same(ours.answer, theirs.answer);
         tally.same(&ours.block, &theirs.block);
         tally.same(&ours.output, &theirs.output);
@@ -164,6 +120,10 @@ impl Beside {
         self.events += u64::from(ours.answer.events);
         self.samples += u64::from(ours.answer.samples);
         self.numbers[(ours.answer.number as usize).min(10)] += 1;
+        if check_script(script).is_ok() && length >= 16 * samples_of(events_of(script)) {
+            let cuts = any_cuts(&mut self.random, events_of(script).len());
+            self.cut(lent, block, events_of(script), &cuts, &ours);
+        }
         ours
     }
 
@@ -175,15 +135,31 @@ impl Beside {
         ours
     }
 
-    /// A readable script from a valid block with room for its samples, then beside the Rust's filter and in pieces.
-    fn readable(&mut self, tally: &mut Tally, block: &[u8], events: &[[u8; 12]], cuts: &[usize]) {
+    /// A readable script from a valid block with room for its samples and some bytes more, then beside the Rust's filter.
+    fn readable(&mut self, tally: &mut Tally, block: &[u8], events: &[[u8; 12]]) {
         let ours = self.whole(tally, block, &script_of(events), 16 * samples_of(events) + (self.runs % 24) as usize);
         self.beside_filter(block, events, &ours);
-        let joined = self.in_pieces(block, events, cuts);
-        self.cut.same(joined.answer, ours.answer);
-        self.cut.same(&joined.block, &ours.block);
-        let written = 16 * ours.answer.samples as usize;
-        self.cut.same(&joined.output[..], &ours.output[MARGIN..MARGIN + written]);
+    }
+
+    /// Pieces between the cuts, each a script of its own that goes on from the block the last one left; none after a stop. They end where
+    /// the uncut run does.
+    fn cut(&mut self, [bundle, curves]: [&[u8]; 2], block: &[u8], events: &[[u8; 12]], cuts: &[usize], uncut: &Left) {
+        let (mut block, mut written, mut done, mut samples) = (framed(block), vec![], 0, 0);
+        let (mut from, mut last) = (0, uncut.answer);
+        for end in cuts.iter().copied().chain([events.len()]) {
+            let piece = &events[from..end];
+            let output = &mut pattern(16 * samples_of(piece));
+            last = proved::run(bundle, curves, room(&mut block), &script_of(piece), output);
+            written.extend(output.iter().take(16 * last.samples as usize));
+            (done, samples) = (done + last.events, samples + last.samples);
+            if last.number != 0 {
+                break;
+            }
+            from = end;
+        }
+        self.cut.same(Answer { events: done, samples, ..last }, uncut.answer);
+        self.cut.same(&block, &uncut.block);
+        self.cut.same(Some(&written[..]), uncut.output.get(MARGIN..MARGIN + 16 * uncut.answer.samples as usize));
     }
 
     /// The Rust's filter in the block's state: the events that were done, and that a 6 is where its numbers are no longer finite.
@@ -197,38 +173,18 @@ impl Beside {
         [kept.band_state, kept.low_state, kept.filter_source_energy] = floats;
         let done = ours.answer.events as usize;
         let mut rows = ours.output[MARGIN..].chunks_exact(16);
-        for event in &events[..done] {
+        for event in events.iter().take(done) {
             if let Some(sample) = play(filter, event) {
                 self.kept.same(rows.next(), Some(sample.map(f32::to_le_bytes).as_flattened()));
             }
         }
         self.kept.same(&ours.block[MARGIN..MARGIN + 24], &filter_block(filter)[..]);
         if ours.answer.number == 6 {
-            let outputs = play(filter, &events[done]).unwrap_or([0.0; 4]);
+            let outputs = events.get(done).and_then(|event| play(filter, event)).unwrap_or_default();
             let kept = filter.state();
             let finite = [kept.band_state, kept.low_state, kept.filter_source_energy].iter().chain(&outputs).all(|x| x.is_finite());
             self.kept.same(finite, false);
         }
-    }
-
-    /// Pieces between the cuts, each a script of its own that goes on from the block the last one left; none after a stop.
-    fn in_pieces(&mut self, before: &[u8], events: &[[u8; 12]], cuts: &[usize]) -> Left {
-        let mut joined = Left { answer: answered(0), block: framed(before), output: vec![] };
-        let ends = cuts.iter().copied().chain([events.len()]);
-        let mut from = 0;
-        for end in ends {
-            let piece = &events[from..end];
-            let output = &mut pattern(16 * samples_of(piece));
-            let answer = proved::run(&self.bundle, &self.curves, room(&mut joined.block), &script_of(piece), output);
-            joined.output.extend(&output[..16 * answer.samples as usize]);
-            joined.answer =
-                Answer { events: joined.answer.events + answer.events, samples: joined.answer.samples + answer.samples, ..answer };
-            if answer.number != 0 {
-                break;
-            }
-            from = end;
-        }
-        joined
     }
 
     /// Bundle and curves are as they were, and every number but 9 was reached: no topology has more than 7 mixer inputs.
@@ -241,31 +197,6 @@ impl Beside {
         }
         tally
     }
-}
-
-fn answered(number: u32) -> Answer {
-    Answer { number, events: 0, samples: 0, buffer: 0, place: 0 }
-}
-
-/// One event on the Rust's filter, and what a sample gives.
-pub fn play(filter: &mut Filter, event: &[u8; 12]) -> Option<[f32; 4]> {
-    let [kind, value, _, _, s0, s1, s2, s3, e0, e1, e2, e3] = *event;
-    match kind {
-        0 => filter.write_cutoff_low(value),
-        1 => filter.write_cutoff_high(value),
-        2 => filter.write_signal_routing(value),
-        3 => filter.write_mode_and_volume(value),
-        4 => return Some(filter.sample(f32::from_le_bytes([s0, s1, s2, s3]), f32::from_le_bytes([e0, e1, e2, e3]))),
-        _ => filter.reset(),
-    }
-    None
-}
-
-/// The block of the state that the Rust's filter is in.
-pub fn filter_block(filter: &mut Filter) -> [u8; 24] {
-    let kept = filter.state();
-    let floats = [kept.band_state, kept.low_state, kept.filter_source_energy].map(f32::to_bits);
-    block(filter.registers(), floats)
 }
 
 // ---- inputs
@@ -332,10 +263,11 @@ fn event(kind: u8, value: u8, [sum, energy]: [f32; 2]) -> [u8; 12] {
     event
 }
 
-/// Where a script is cut: nowhere, at some places, or, if it is short, after every event. Some places are the same, so pieces are empty.
+/// Where a script is cut: nowhere, at some places, or, if it is short, before and after every event. Some places are the same, so pieces are
+/// empty.
 fn any_cuts(random: &mut Random, events: usize) -> Vec<usize> {
     let bits = random.bits();
-    if bits % 8 == 0 && events <= 2_000 {
+    if bits % 8 == 0 && events <= 2_000 || events <= 2 {
         return (0..=events).collect();
     }
     let mut cuts: Vec<usize> = (0..(bits >> 8) % 8).map(|_| random.bits() as usize % (events + 1)).collect();
@@ -369,8 +301,7 @@ fn random_scripts(beside: &mut Beside) -> Tally {
                 any_event(&mut random, wild)
             })
             .collect();
-        let cuts = any_cuts(&mut random, length);
-        beside.readable(&mut tally, &block, &events, &cuts);
+        beside.readable(&mut tally, &block, &events);
     }
     tally
 }
@@ -424,11 +355,11 @@ fn starts() -> Vec<[u8; 24]> {
 fn small_scripts(beside: &mut Beside) -> Tally {
     let (mut tally, letters) = (Tally::default(), letters());
     for block in starts() {
-        beside.readable(&mut tally, &block, &[], &[0]);
+        beside.readable(&mut tally, &block, &[]);
         for &first in &letters {
-            beside.readable(&mut tally, &block, &[first], &[0]);
+            beside.readable(&mut tally, &block, &[first]);
             for &second in &letters {
-                beside.readable(&mut tally, &block, &[first, second], &[1]);
+                beside.readable(&mut tally, &block, &[first, second]);
             }
         }
     }
@@ -541,7 +472,8 @@ fn wrong_buffers(beside: &mut Beside) -> Tally {
         let mut script = script_of(&events);
         block[11] = u8::from(bits % 4 == 0);
         script[4] += u8::from(bits >> 2 & 3 == 0);
-        beside.run(&mut tally, [bundle, curves], &block, &script, 16 * samples_of(&events) - (bits >> 4) as usize % 2 * samples_of(&events));
+        let a_sample = if bits >> 4 & 1 == 0 { 16 } else { 15 };
+        beside.run(&mut tally, [bundle, curves], &block, &script, a_sample * samples_of(&events));
     };
     for place in 0..56 {
         let byte = bundle[place];
