@@ -31,6 +31,7 @@ use Rattle.script.proofs.Cut.{all-append, events-append, samples-append, Header
 use Rattle.filter.specs.Core.{coreOf, judgeLentOf, judgeStateOf}
 use Rattle.filter.specs.Plain.{Plain, plainStart, plainStep}
 use Rattle.filter.proofs.Demand3.{Kept, steps}
+use Rattle.run.proofs.Bytes.{length-outputs, outputs-append}
 use Rattle.run.specs.Run.{Ran, stopped, went, playOf, playedOf, outputBytes, sampleBytes, isValid, judgeRunOf, Run, leftOf, runOf}
 use Rattle.run.specs.Pieces.{Piece, slicesOfAll, Roomy, AllRoomy, Told, told, toldOf, joinTold, piecesOf, plainTold}
 
@@ -125,21 +126,6 @@ module _ (bundle curves : List ℕ) where
           go false h = rw h refl
 
 -- ---- on bytes
-
-pub length-outputs : (os : List Outputs) → length (sampleBytes os) ≡ 16 * length os
-unfolding sampleBytes
-length-outputs [] = refl
-length-outputs (o ∷ os) =
-    let row : length (outputBytes o) ≡ 16 = length-row (toBits binary32 (o .high)) (toBits binary32 (o .band)) (toBits binary32 (o .low)) (toBits binary32 (o .selected)) in
-    omega (arith, length-append (outputBytes o) (sampleBytes os), row, length-outputs os)
-  where
-    length-row : (a b c d : ℕ) → length (rowBytes a b c d) ≡ 16
-    length-row a b c d = simp (length-append, length-bytesOf)
-
-outputs-append : (os ps : List Outputs) → sampleBytes (os ++ ps) ≡ sampleBytes os ++ sampleBytes ps
-unfolding sampleBytes
-outputs-append [] ps = refl
-outputs-append (o ∷ os) ps = rw (outputs-append os ps) (sym (append-assoc (outputBytes o) (sampleBytes os) (sampleBytes ps)))
 
 told-left : (r : Ran) (output : List ℕ) → told (leftOf r output) ≡ toldOf r
 told-left r output = rw (take-at (sampleBytes (r .samples)) (drop (16 * length (r .samples)) output) (16 * length (r .samples)) (length-outputs (r .samples))) refl

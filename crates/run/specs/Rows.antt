@@ -1,0 +1,66 @@
+-- Samples in a row, between which nothing that is kept changes: how the run's loop takes its events.
+use Prim.Native.Nat.{ℕ, suc, _+_}
+use mathlib.Core.Bool.{true, false, cond}
+use mathlib.Core.List.{List, [], _∷_}
+use lib.ListN.{length}
+use lib.Ieee.{Float}
+use Rattle.answers.specs.declared.Answer.{Answer}
+use Rattle.answers.specs.declared.Answer.the-variants.{Done}
+use Rattle.floats.specs.Arithmetic.{f32}
+use Rattle.integrator.specs.declared.IntegratorState.{IntegratorState}
+use Rattle.mixing.specs.declared.MixingTopology.{MixingTopology}
+use Rattle.controls.specs.declared.ControlCache.{ControlCache}
+use Rattle.sample.specs.declared.Outputs.{Outputs}
+use Rattle.sample.specs.declared.Sampled.{Sampled}
+use Rattle.sample.specs.declared.Sampled.the-variants.{Taken, Refused}
+use Rattle.sample.specs.Sample.{sampleOf}
+use Rattle.script.specs.declared.Event.{Event}
+use Rattle.script.specs.declared.Event.the-variants.{CutoffLow, CutoffHigh, Routing, Mode, Sample, Reset}
+use Rattle.run.specs.declared.Asked.{Asked}
+use Rattle.run.specs.declared.Row.{Row}
+use Rattle.run.specs.declared.Played.{Played}
+use Rattle.run.specs.Run.{Ran}
+
+-- What an event asks of the filter: a sample with its two numbers, or no sample.
+abbrev pub notAsked : Asked
+notAsked = record { sample = false; «input_sum» = f32 0; «source_energy» = f32 0 }
+
+abbrev pub askedOf : Event → Asked
+askedOf (CutoffLow value) = notAsked
+askedOf (CutoffHigh value) = notAsked
+askedOf (Routing value) = notAsked
+askedOf (Mode value) = notAsked
+askedOf (Sample sum energy) = record { sample = true; «input_sum» = sum; «source_energy» = energy }
+askedOf Reset = notAsked
+
+-- The samples that come first, up to one that is refused: how many, their outputs, and the integrator after them.
+pub record Samples : Type 0 where
+  pub answer : Answer
+  pub events : ℕ
+  pub outputs : List Outputs
+  pub integrator : IntegratorState
+
+abbrev pub noSamples : Answer → IntegratorState → Samples
+noSamples answer i = record { answer = answer; events = 0; outputs = []; integrator = i }
+
+abbrev pub oneMore : Outputs → Samples → Samples
+oneMore o r = record { answer = r .answer; events = suc (r .events); outputs = o ∷ r .outputs; integrator = r .integrator }
+
+-- a sample, and what comes after it
+abbrev pub rowOn : (IntegratorState → Samples) → IntegratorState → Sampled → Samples
+rowOn later i (Taken o j) = oneMore o (later j)
+rowOn later i (Refused answer) = noSamples answer i
+
+unfoldable pub rowOf : List ℕ → List ℕ → MixingTopology → ControlCache → ℕ → IntegratorState → List Event → Samples
+rowOf bundle curves t c mode i [] = noSamples Done i
+rowOf bundle curves t c mode i (e ∷ es) =
+    cond (askedOf e .sample)
+    (rowOn (λ j. rowOf bundle curves t c mode j es) i (sampleOf bundle curves t c mode i (askedOf e .«input_sum») (askedOf e .«source_energy»)))
+    (noSamples Done i)
+
+-- as the code has them, after the events and samples before
+abbrev pub rowEnd : ℕ → ℕ → Samples → Row
+rowEnd events samples r = record { answer = r .answer; events = events + r .events; samples = samples + length (r .outputs); integrator = r .integrator }
+
+abbrev pub playEnd : ℕ → ℕ → Ran → Played
+playEnd events samples r = record { answer = r .answer; events = events + r .events; samples = samples + length (r .samples); state = r .state }
