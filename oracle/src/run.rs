@@ -337,7 +337,7 @@ fn starts() -> Vec<[u8; 24]> {
         (2047, 0, 2047, [0, 0, 3, 4, 1]),
         (8, 13, 0, [1, 7, 12, 8, 7]),
     ];
-    let floats = [[0.0, -0.0, 0.0], [0.5, -0.25, 0.1], [8.0e12, -8.0e12, 1.0], [f32::MAX, f32::MIN, f32::MAX], [0.0, 0.0, -0.005]];
+    let floats = [[-0.0, 0.0, -0.0], [0.5, -0.25, 0.1], [8.0e12, -8.0e12, 1.0], [f32::MAX, f32::MIN, f32::MAX], [0.0, 0.0, -0.005]];
     for (cutoff, displacement, base, bytes) in registers {
         for floats in floats {
             let mut start = [0; 24];
@@ -463,7 +463,8 @@ fn outputs(beside: &mut Beside) -> Tally {
     tally
 }
 
-/// Every value of every header byte of the bundle, and wrong lengths of bundle and curves, with all else right and with other flaws.
+/// Every value of every header byte of the bundle, alone and with another one wrong, and wrong lengths of bundle and curves, with all else
+/// right and with other flaws.
 fn wrong_buffers(beside: &mut Beside) -> Tally {
     let (mut tally, mut random) = (Tally::default(), Random(44));
     let (mut bundle, mut curves) = (beside.bundle.clone(), beside.curves.clone());
@@ -480,6 +481,9 @@ fn wrong_buffers(beside: &mut Beside) -> Tally {
         for value in 0..=255 {
             bundle[place] = value;
             both(&bundle, &curves[..CURVES_LENGTH - usize::from(value % 2)]);
+            bundle[55 - place] ^= 1;
+            both(&bundle, &curves);
+            bundle[55 - place] ^= 1;
         }
         bundle[place] = byte;
     }
