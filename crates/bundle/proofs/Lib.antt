@@ -1,2 +1,3 @@
 pub mod Laws
 pub mod Accepted
+pub mod Reading

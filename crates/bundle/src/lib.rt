@@ -3,6 +3,8 @@ ghost use mathlib.Core.Path.{_≡_};
 ghost use Prim.Native.Nat.{_+_, _*_, _≤_, _<_};
 ghost use lib.ListN.{getD};
 ghost use Rattle.bundle.specs.Layout.{integratorGainPlace, dampingPlace, sourceGainModulationPlace, highpassLoadingPlace, displacementIndexOf, directionalPowerPlace, analogueSurface, header};
+ghost use mathlib.Core.List.{[], _∷_};
+ghost use Rattle.bundle.specs.Reading.{readOf};
 ghost use Rattle.bundle.specs.Opening.{entryAt, firstDifference, checkOf, judgePlacesOf, judgeSectionOf, openOf};
 use answers::Answer;
 use answers::Buffer;
@@ -84,6 +86,23 @@ pub fn entry_at(bundle: &[u8], place: u32) -> f32
     ensures { λ r. ⌜ r ≡ entryAt (now (bundle .entry)) place ⌝ }
 {
     wire::f32_at(bundle, place as usize)
+}
+
+// What a call that judges each entry as it reads it gives: its value, or the refusal of the first unusable one.
+pub enum Read {
+    Value(f32),
+    Refused(Answer),
+}
+
+// The entry at a place of a buffer, judged as it is read.
+pub fn read_entry(buffer: Buffer, bytes: &[u8], place: u32) -> Read
+    ensures { λ r. ⌜ r ≡ readOf (judgePlacesOf buffer (now (bytes .entry)) (place ∷ [])) (entryAt (now (bytes .entry)) place) ⌝ }
+{
+    let bits = wire::u32_at(bytes, place as usize);
+    if wire::usable(bits) {
+        return Read::Value(wire::f32_of(bits));
+    }
+    Read::Refused(Answer::Entry { buffer, place })
 }
 
 // Refuses at the first unusable one among the entries at some places, in the order of the places.

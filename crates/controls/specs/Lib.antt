@@ -1,2 +1,3 @@
 pub mod Controls
 pub mod Judging
+pub mod Kept

@@ -5,7 +5,14 @@ use native.Mathlib.Omega.{arith}
 use lib.Ieee.{Float}
 use Rattle.floats.proofs.Range.{curve-index, load-index}
 use Rattle.bundle.specs.Layout.{surfacePlace}
-use Rattle.curves.specs.Sampling.{loadPositionOf, inputPositionOf, tablePlace}
+use mathlib.Core.List.{List, [], _∷_}
+use Rattle.answers.specs.declared.Buffer.the-variants.{Bundle}
+use Rattle.answers.specs.Answers.{firstOf}
+use Rattle.bundle.specs.Opening.{judgePlacesOf}
+use Rattle.bundle.proofs.Laws.{judge-append}
+use Rattle.response.specs.declared.TablePosition.{TablePosition}
+use Rattle.curves.specs.declared.LoadPosition.{LoadPosition}
+use Rattle.curves.specs.Sampling.{loadPositionOf, inputPositionOf, tablePlace, cornersOf}
 
 module _ (conductance : Float) where
   pub load-lower : loadPositionOf conductance .«lower_base» ≤ 294912
@@ -28,3 +35,12 @@ module _ (input : Float) where
 -- The place of an index of the surface's table is document 01's place of its load and its input.
 pub surface-place : (load input : ℕ) → tablePlace (load * 2048 + input) ≡ surfacePlace load input
 surface-place load input = refl
+
+-- the corners of the lower load, then those of the upper
+pub corners-apart : (bundle : List ℕ) (load : LoadPosition) (at : TablePosition) → judgePlacesOf Bundle bundle (cornersOf load at)
+    ≡ firstOf (judgePlacesOf Bundle bundle (tablePlace (load .«lower_base» + at .lower) ∷ tablePlace (load .«lower_base» + at .upper) ∷ []))
+    (judgePlacesOf Bundle bundle (tablePlace (load .«upper_base» + at .lower) ∷ tablePlace (load .«upper_base» + at .upper) ∷ []))
+unfolding cornersOf
+corners-apart bundle load at =
+    judge-append Bundle bundle (tablePlace (load .«lower_base» + at .lower) ∷ tablePlace (load .«lower_base» + at .upper) ∷ [])
+    (tablePlace (load .«upper_base» + at .lower) ∷ tablePlace (load .«upper_base» + at .upper) ∷ [])

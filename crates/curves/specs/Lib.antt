@@ -1,2 +1,3 @@
 pub mod Sampling
 pub mod Building
+pub mod Reading

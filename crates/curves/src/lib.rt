@@ -8,11 +8,16 @@ ghost use lib.Ieee.{toUnsigned};
 ghost use Rattle.wire.specs.Wire.{f32At, usableAt};
 ghost use Rattle.answers.specs.declared.Buffer.the-variants.{Bundle, Curves};
 ghost use Rattle.response.specs.Position.{tablePositionOf};
-ghost use Rattle.bundle.specs.Opening.{judgePlacesOf};
+ghost use mathlib.Core.List.{[], _∷_};
+ghost use Rattle.bundle.specs.Opening.{entryAt, judgePlacesOf};
+ghost use Rattle.bundle.specs.Reading.{readOf};
+ghost use Rattle.response.specs.Levels.{between};
 ghost use Rattle.curves.specs.Sampling.{loadPositionOf, inputPositionOf, tablePlace, samplePlacesOf, sampleOf, curvePlace, sampleCurvePlacesOf, sampleCurveOf, restingPlacesOf, restingOutputOf};
+ghost use Rattle.curves.specs.Reading.{readRowOf};
 ghost use Rattle.curves.specs.Building.{curveLoadOf, volumeEntryOf, finishedOf, rowOf, UsableRow, blendOf, blendsOf, Buildable, curveOf, curvesOf, buildAnswerOf, builtOf};
 use answers::Answer;
 use answers::Buffer;
+use bundle::Read;
 use response::TablePosition;
 
 // The rows of the two loads that a conductance lies between, each by the index of its first entry, and how far it lies from the lower one.
@@ -86,6 +91,23 @@ fn sample_places(conductance: f32, input: f32) -> [u32; 4]
     ]
 }
 
+// Between two entries, each judged as it is read.
+fn read_between(buffer: Buffer, bytes: &[u8], lower: u32, upper: u32, fraction: f32) -> Read
+    ensures { λ r. ⌜ r ≡ readOf (judgePlacesOf buffer (now (bytes .entry)) (lower ∷ upper ∷ [])) (between (entryAt (now (bytes .entry)) lower) (entryAt (now (bytes .entry)) upper) fraction) ⌝ }
+{
+    let first = bundle::read_entry(buffer, bytes, lower);
+    match first {
+        Read::Refused(answer) => Read::Refused(answer),
+        Read::Value(from) => {
+            let second = bundle::read_entry(buffer, bytes, upper);
+            match second {
+                Read::Refused(answer) => Read::Refused(answer),
+                Read::Value(to) => Read::Value(response::interpolate(from, to, fraction)),
+            }
+        }
+    }
+}
+
 // Refuses at the first unusable entry that `sample` reads.
 pub fn judge_sample(bundle: &[u8], conductance: f32, input: f32) -> Answer
     ensures { λ r. ⌜ r ≡ judgePlacesOf Bundle (now (bundle .entry)) (samplePlacesOf conductance input) ⌝ }
@@ -112,6 +134,35 @@ pub fn sample(bundle: &[u8], conductance: f32, input: f32) -> f32
         at.fraction,
     );
     response::interpolate(lower, upper, load.fraction)
+}
+
+// A load's row at an input, each entry judged as it is read.
+fn read_row(bundle: &[u8], base: usize, at: TablePosition) -> Read
+    requires { ⌜ (base ≤ 294912) × (at .lower ≤ 2047) × (at .upper ≤ 2047) ⌝ }
+    ensures { λ r. ⌜ r ≡ readRowOf (now (bundle .entry)) base at ⌝ }
+{
+    let lower = table_place(base, at.lower);
+    let upper = table_place(base, at.upper);
+    read_between(Buffer::Bundle, bundle, lower, upper, at.fraction)
+}
+
+// `sample`, each entry judged as it is read.
+pub fn read_sample(bundle: &[u8], conductance: f32, input: f32) -> Read
+    ensures { λ r. ⌜ r ≡ readOf (judgePlacesOf Bundle (now (bundle .entry)) (samplePlacesOf conductance input)) (sampleOf (now (bundle .entry)) conductance input) ⌝ }
+{
+    let load = load_position(conductance);
+    let at = input_position(input);
+    let lower = read_row(bundle, load.lower_base, at);
+    match lower {
+        Read::Refused(answer) => Read::Refused(answer),
+        Read::Value(from) => {
+            let upper = read_row(bundle, load.upper_base, at);
+            match upper {
+                Read::Refused(answer) => Read::Refused(answer),
+                Read::Value(to) => Read::Value(response::interpolate(from, to, load.fraction)),
+            }
+        }
+    }
 }
 
 // ---- a curve
@@ -155,6 +206,15 @@ pub fn sample_curve(curves: &[u8], curve: u8, input: f32) -> f32
     )
 }
 
+// `sample_curve`, each entry judged as it is read.
+pub fn read_curve(curves: &[u8], curve: u8, input: f32) -> Read
+    ensures { λ r. ⌜ r ≡ readOf (judgePlacesOf Curves (now (curves .entry)) (sampleCurvePlacesOf curve input)) (sampleCurveOf (now (curves .entry)) curve input) ⌝ }
+{
+    let at = input_position(input);
+    let places = sample_curve_places(curve, input);
+    read_between(Buffer::Curves, curves, places[0], places[1], at.fraction)
+}
+
 // ---- the summer at rest
 
 // Refuses at the first unusable entry that `summer_resting_output` reads.
@@ -183,6 +243,20 @@ pub fn summer_resting_output(bundle: &[u8], count: usize) -> f32
         );
     }
     0.0
+}
+
+// `summer_resting_output`, each entry judged as it is read. It depends on the bundle and the count alone, so a run may keep it.
+pub fn read_resting_output(bundle: &[u8], count: usize) -> Read
+    ensures { λ r. ⌜ r ≡ readOf (judgePlacesOf Bundle (now (bundle .entry)) (restingPlacesOf count)) (restingOutputOf (now (bundle .entry)) count) ⌝ }
+{
+    if 2 <= count {
+        return read_sample(
+            bundle,
+            floats::of_usize(count),
+            response::filter_mode_quiescent_level(),
+        );
+    }
+    Read::Value(0.0)
 }
 
 // ---- building

@@ -157,7 +157,7 @@ module _ (bundle : List ℕ) (k : Core) (opened : checkOf bundle ≡ Done) (kept
 -- ---- a sample: the registers stay, so all that is kept stays
 
 -- a refused sample has a refusal
-unfoldable refuses : Sampled → Bool
+unfoldable pub refuses : Sampled → Bool
 refuses (Taken outputs i) = true
 refuses (Refused answer) = not (isDoneOf answer)
 
@@ -170,7 +170,7 @@ taken-refuses c count mode (Settled a) = go (finite (selectOf c count mode (a .o
     go true o i = refl
     go false o i = refl
 
-sample-refuses : (bundle curves : List ℕ) (t : MixingTopology) (c : ControlCache) (mode : ℕ) (i : IntegratorState) (sum energy : Float) → refuses (sampleOf bundle curves t c mode i sum energy) ≡ true
+pub sample-refuses : (bundle curves : List ℕ) (t : MixingTopology) (c : ControlCache) (mode : ℕ) (i : IntegratorState) (sum energy : Float) → refuses (sampleOf bundle curves t c mode i sum energy) ≡ true
 unfolding sampleOf refuses
 sample-refuses bundle curves t c mode i sum energy =
     let judged = judgeSampleOf bundle curves t i sum energy in
@@ -226,7 +226,7 @@ module _ (bundle curves : List ℕ) (s : State) (sum energy : Float) (lent : jud
       go true h n = absurd (true≢false (sym n))
       go false h n = rw h (refl, fresh-kept)
 
-  sample-plain : plainTaken s sampled ≡ plainSample bundle curves s sum energy
+  pub sample-plain : plainTaken s sampled ≡ plainSample bundle curves s sum energy
   unfolding plainSample sampleOf judgeSampleOf topologyOf
   sample-plain = go (finite sum && finite energy) refl
     where

@@ -32,7 +32,7 @@ pub struct Fed {
 // ---- what a call judges before its event
 
 // The lengths of what is lent, and the bundle's header.
-fn judge_lent(bundle: &[u8], curves: &[u8]) -> Answer
+pub fn judge_lent(bundle: &[u8], curves: &[u8]) -> Answer
     ensures { λ r. ⌜ r ≡ F.judgeLentOf (now (bundle .entry)) (now (curves .entry)) ⌝ }
 {
     let length = answers::unless(curves.len() == 254076, Answer::CurvesLength);

@@ -32,7 +32,7 @@ use Rattle.filter.specs.Core.{coreOf, judgeLentOf, judgeStateOf}
 use Rattle.filter.specs.Plain.{Plain, plainStart, plainStep}
 use Rattle.filter.proofs.Demand3.{Kept, steps}
 use Rattle.run.proofs.Bytes.{length-outputs, outputs-append}
-use Rattle.run.specs.Run.{Ran, stopped, went, playOf, playedOf, outputBytes, sampleBytes, isValid, judgeRunOf, Run, leftOf, runOf}
+use Rattle.run.specs.Run.{Ran, stopped, went, playOf, playedOf, outputBytes, sampleBytes, isValid, judgeRunOf, judgeScriptOf, Run, leftOf, runOf}
 use Rattle.run.specs.Pieces.{Piece, slicesOfAll, Roomy, AllRoomy, Told, told, toldOf, joinTold, piecesOf, plainTold}
 
 -- ---- one run after another
@@ -141,10 +141,8 @@ module _ (bundle curves : List ℕ) where
 
   module _ (s : State) (script output : List ℕ) (v : validOf s ≡ true) (w : wellFormed script ≡ true) (room : 16 * samplesOf (eventsOf script) ≤ length output) where
     run-judged : judgeRunOf bundle curves (blockOf s) script (length output) ≡ lent
-    unfolding judgeRunOf judgeLentOf
-    run-judged =
-        rw (decode-block s v, w, le-leb (16 * samplesOf (eventsOf script)) (length output) room)
-        (ap (firstOf (checkOf bundle)) (first-of-done (unlessOf (eqb (length curves) 254076) CurvesLength)))
+    unfolding judgeRunOf judgeScriptOf
+    run-judged = rw (decode-block s v, w, le-leb (16 * samplesOf (eventsOf script)) (length output) room) (first-of-done lent)
       where
         first-of-done : (a : Answer) → firstOf a Done ≡ a
         first-of-done a = go (isDoneOf a) refl

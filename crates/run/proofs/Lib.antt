@@ -1,3 +1,5 @@
 pub mod Bytes
 pub mod Rows
 pub mod Cutting
+pub mod Loop
+pub mod Whole

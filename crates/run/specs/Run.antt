@@ -2,14 +2,13 @@
 use Prim.Native.Nat.{ℕ, suc, _*_}
 use mathlib.Core.Bool.{Bool, true, false, cond}
 use mathlib.Core.List.{List, [], _∷_, _++_}
-use lib.Dec.{eqb, leb}
+use lib.Dec.{leb}
 use lib.ListN.{length, drop}
 use lib.Ieee.{binary32, toBits}
 use Rattle.answers.specs.declared.Answer.{Answer}
-use Rattle.answers.specs.declared.Answer.the-variants.{Done, CurvesLength, Argument, Script, OutputLength}
+use Rattle.answers.specs.declared.Answer.the-variants.{Done, Argument, Script, OutputLength}
 use Rattle.answers.specs.Answers.{firstOf, unlessOf, isDoneOf}
 use Rattle.wire.specs.Wire.{rowBytes}
-use Rattle.bundle.specs.Opening.{checkOf}
 use Rattle.control.specs.declared.State.{State}
 use Rattle.control.specs.declared.Decoded.{Decoded}
 use Rattle.control.specs.declared.Decoded.the-variants.{Valid, Invalid}
@@ -18,6 +17,7 @@ use Rattle.controls.specs.Judging.{judgeControlsOf}
 use Rattle.sample.specs.declared.Outputs.{Outputs}
 use Rattle.script.specs.declared.Event.{Event}
 use Rattle.script.specs.Script.{wellFormed, eventsOf, samplesOf}
+use Rattle.filter.specs.Core.{judgeLentOf}
 use Rattle.filter.specs.Plain.{Plain, plainStep}
 
 -- ---- the events
@@ -63,14 +63,17 @@ abbrev pub isValid : Decoded → Bool
 isValid (Valid s) = true
 isValid Invalid = false
 
+-- 10
+abbrev pub judgeBlockOf : List ℕ → Answer
+judgeBlockOf block = unlessOf (isValid (decodeOf block)) Argument
+
+-- 7, 8
+unfoldable pub judgeScriptOf : List ℕ → ℕ → Answer
+judgeScriptOf script room = firstOf (unlessOf (wellFormed script) Script) (unlessOf (leb (16 * samplesOf (eventsOf script)) room) OutputLength)
+
 -- 1, 2, 4, 10, 7, 8
 unfoldable pub judgeRunOf : List ℕ → List ℕ → List ℕ → List ℕ → ℕ → Answer
-judgeRunOf bundle curves block script room =
-    firstOf (checkOf bundle)
-    (firstOf (unlessOf (eqb (length curves) 254076) CurvesLength)
-    (firstOf (unlessOf (isValid (decodeOf block)) Argument)
-    (firstOf (unlessOf (wellFormed script) Script)
-    (unlessOf (leb (16 * samplesOf (eventsOf script)) room) OutputLength))))
+judgeRunOf bundle curves block script room = firstOf (judgeLentOf bundle curves) (firstOf (judgeBlockOf block) (judgeScriptOf script room))
 
 -- What a run answers, and the bytes that it leaves in the state block and in the output.
 pub record Run : Type 0 where

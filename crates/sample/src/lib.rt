@@ -1,10 +1,13 @@
 // The filter's step for one sample: the summer, the nonlinear core, and the selection of its outputs.
 ghost use mathlib.Core.Path.{_≡_};
 ghost use Prim.Native.Nat.{_≤_};
+ghost use mathlib.Core.List.{[]};
 ghost use Rattle.sample.specs.Sample as S;
+ghost use Rattle.sample.specs.Kept as K;
 use answers::Answer;
+use bundle::Read;
 use controls::ControlCache;
-use controls::FilterControls;
+use controls::CoreControls;
 use integrator::Coefficients;
 use integrator::FilterOutputs;
 use integrator::IntegratorState;
@@ -81,6 +84,35 @@ pub fn judge_summer(
     )
 }
 
+// The summer's output at rest for a topology: a run keeps it until the routing changes.
+pub fn rest_of(bundle: &[u8], topology: MixingTopology) -> Read
+    ensures { λ r. ⌜ r ≡ K.restOf (now (bundle .entry)) topology ⌝ }
+{
+    curves::read_resting_output(bundle, summer_inputs(topology.filter_input_count) as usize)
+}
+
+// What the core is fed: nothing where it is idle, the summer's output above its rest, or a refusal.
+pub enum Fed {
+    Idle,
+    Level(f32),
+    Refused(Answer),
+}
+
+// The summer's output above a rest that is handed in, each entry judged as it is read.
+fn summed(curves: &[u8], topology: MixingTopology, rest: Read, input_sum: f32) -> Fed
+    ensures { λ r. ⌜ r ≡ K.summedOf (now (curves .entry)) topology rest «input_sum» ⌝ }
+{
+    let inputs = summer_inputs(topology.filter_input_count);
+    let curve = curves::read_curve(curves, inputs, average(topology, input_sum));
+    match curve {
+        Read::Refused(answer) => Fed::Refused(answer),
+        Read::Value(level) => match rest {
+            Read::Refused(answer) => Fed::Refused(answer),
+            Read::Value(resting) => Fed::Level(level - resting),
+        },
+    }
+}
+
 // ---- advance_filter_core
 
 fn is_idle(count: usize, s: IntegratorState) -> bool
@@ -89,11 +121,12 @@ fn is_idle(count: usize, s: IntegratorState) -> bool
     (count == 0) & (s.filter_source_energy == 0.0) & (s.band_state == 0.0) & (s.low_state == 0.0)
 }
 
-fn fed_energy(count: usize, reciprocal: f32, energy: f32) -> f32
-    ensures { λ r. ⌜ r ≡ S.fedOf count reciprocal energy ⌝ }
+// The energy of one input.
+fn fed_energy(topology: MixingTopology, energy: f32) -> f32
+    ensures { λ r. ⌜ r ≡ S.fedOf (topology .«filter_input_count») (topology .«filter_input_reciprocal») energy ⌝ }
 {
-    if 0 < count {
-        energy * reciprocal
+    if 0 < topology.filter_input_count {
+        energy * topology.filter_input_reciprocal
     } else {
         energy
     }
@@ -105,9 +138,9 @@ fn tracked_energy(tracked: f32, fed: f32) -> f32
     tracked + constants::FILTER_SOURCE_ENERGY_TRACKING * (fed - tracked)
 }
 
-fn between_bins(values: [f32; 16], at: TablePosition) -> f32
+fn between_bins(values: &[f32; 16], at: TablePosition) -> f32
     requires { ⌜ (at .lower ≤ 15) × (at .upper ≤ 15) ⌝ }
-    ensures { λ r. ⌜ r ≡ S.betweenBins values at ⌝ }
+    ensures { λ r. ⌜ r ≡ S.betweenBins (now (values .entry)) at ⌝ }
 {
     let lower = at.lower;
     let upper = at.upper;
@@ -136,22 +169,27 @@ fn coefficients(damping: f32, feedback_drive: f32, g: f32) -> Coefficients
 }
 
 // The core at an input and its new energy.
-fn moved(f: FilterControls, s: IntegratorState, input: f32, energy: f32) -> Substeps
-    ensures { λ r. ⌜ r ≡ S.movedOf f s input energy ⌝ }
+fn moved(
+    gains: &[f32; 16],
+    input_drives: &[f32; 16],
+    feedback_drives: &[f32; 16],
+    core: CoreControls,
+    s: IntegratorState,
+    input: f32,
+    energy: f32,
+) -> Substeps
+    ensures { λ r. ⌜ r ≡ S.movedOf (K.filterOf (now (gains .entry)) (now («input_drives» .entry)) (now («feedback_drives» .entry)) core) s input energy ⌝ }
 {
-    let feedback_drives = f.feedback_drive;
-    let input_drives = f.input_drive;
-    let gains = f.integrator_gain;
     let at = response::operating_position(input, s.band_state, s.low_state);
-    let feedback_drive = between_bins(feedback_drives, at) * f.resonance_feedback_scale;
+    let feedback_drive = between_bins(feedback_drives, at) * core.resonance_feedback_scale;
     let input_drive = between_bins(input_drives, at);
     let shift = shift(
-        f.source_gain_modulation,
-        f.source_modulation_resonance_scale,
+        core.source_gain_modulation,
+        core.source_modulation_resonance_scale,
         energy,
     );
     let g = between_bins(gains, at) + shift;
-    let k = coefficients(f.damping, feedback_drive, g);
+    let k = coefficients(core.damping, feedback_drive, g);
     let from = IntegratorState {
         band_state: s.band_state,
         low_state: s.low_state,
@@ -174,30 +212,6 @@ fn at_rest(s: IntegratorState) -> Substeps
     })
 }
 
-fn advance_filter_core(
-    bundle: &[u8],
-    curves: &[u8],
-    topology: MixingTopology,
-    f: FilterControls,
-    s: IntegratorState,
-    input_sum: f32,
-    source_energy: f32,
-) -> Substeps
-    ensures { λ r. ⌜ r ≡ S.advanceCoreOf (now (bundle .entry)) (now (curves .entry)) topology f s «input_sum» «source_energy» ⌝ }
-{
-    if is_idle(topology.filter_input_count, s) {
-        return at_rest(s);
-    }
-    let fed = fed_energy(
-        topology.filter_input_count,
-        topology.filter_input_reciprocal,
-        source_energy,
-    );
-    let energy = tracked_energy(s.filter_source_energy, fed);
-    let input = summer_transfer(bundle, curves, topology, input_sum) * constants::FILTER_INPUT_GAIN;
-    moved(f, s, input, energy)
-}
-
 // ---- select_filter_output
 
 // By the mode's lower three bits: 1 low, 2 band, 4 high.
@@ -216,54 +230,42 @@ fn mode_sum(m: u8, low: f32, band: f32, high: f32) -> f32
     }
 }
 
-fn mixed(f: FilterControls, mode: u8, o: FilterOutputs) -> f32
-    ensures { λ r. ⌜ r ≡ S.mixedOf f mode o ⌝ }
+fn mixed(core: CoreControls, mode: u8, o: FilterOutputs) -> f32
+    ensures { λ r. ⌜ r ≡ S.mixedOf (K.filterOf [] [] [] core) mode o ⌝ }
 {
     let quiescent = response::filter_mode_quiescent_level();
     let polarity = constants::mode_polarity();
     let low = quiescent + o.low_pass * polarity[0];
-    let band = quiescent + (o.band_pass + f.band_pass_low_coupling * o.low_pass) * polarity[1];
-    let high = quiescent + (o.high_pass + f.high_pass_low_coupling * o.low_pass) * polarity[2];
+    let band = quiescent + (o.band_pass + core.band_pass_low_coupling * o.low_pass) * polarity[1];
+    let high = quiescent + (o.high_pass + core.high_pass_low_coupling * o.low_pass) * polarity[2];
     mode_sum(mode % 8, low, band, high)
 }
 
 // The selected value, for a count of selected outputs.
-fn select_filter_output(c: ControlCache, count: usize, mode: u8, o: FilterOutputs) -> f32
-    ensures { λ r. ⌜ r ≡ S.selectOf c count mode o ⌝ }
+fn select_filter_output(
+    core: CoreControls,
+    mode_output_gain: f32,
+    count: usize,
+    mode: u8,
+    o: FilterOutputs,
+) -> f32
+    ensures { λ r. ⌜ r ≡ S.selectOf (K.cacheOf [] [] [] core «mode_output_gain») count mode o ⌝ }
 {
-    let f = c.filter;
     let resting = response::filter_mode_quiescent_level() * floats::of_usize(count);
-    resting + (mixed(f, mode, o) - resting) * c.mode_output_gain * f.resonance_output_gain
+    resting + (mixed(core, mode, o) - resting) * mode_output_gain * core.resonance_output_gain
 }
 
 // ---- the sample
 
-// Whether the sum and the energy are finite, the mixer's inputs at most 7, and the entries that are read usable.
-fn judge_sample(
-    bundle: &[u8],
-    curves: &[u8],
-    topology: MixingTopology,
-    s: IntegratorState,
-    input_sum: f32,
-    source_energy: f32,
-) -> Answer
-    ensures { λ r. ⌜ r ≡ S.judgeSampleOf (now (bundle .entry)) (now (curves .entry)) topology s «input_sum» «source_energy» ⌝ }
-{
-    if floats::is_finite(input_sum) & floats::is_finite(source_energy) {
-        if topology.mixer_input_count <= 7 {
-            if is_idle(topology.filter_input_count, s) {
-                return Answer::Done;
-            }
-            return judge_summer(bundle, curves, topology, input_sum);
-        }
-        return Answer::MixerInputs;
-    }
-    Answer::InputNotFinite
-}
-
 // The outputs with the selected value beside them, where all are finite.
-fn taken(c: ControlCache, count: usize, mode: u8, moved: Substeps) -> Sampled
-    ensures { λ r. ⌜ r ≡ S.takenOf c count mode moved ⌝ }
+fn taken(
+    core: CoreControls,
+    mode_output_gain: f32,
+    count: usize,
+    mode: u8,
+    moved: Substeps,
+) -> Sampled
+    ensures { λ r. ⌜ r ≡ S.takenOf (K.cacheOf [] [] [] core «mode_output_gain») count mode moved ⌝ }
 {
     let Substeps::Settled(a) = moved else {
         return Sampled::Refused {
@@ -272,7 +274,7 @@ fn taken(c: ControlCache, count: usize, mode: u8, moved: Substeps) -> Sampled
     };
     let o = a.outputs;
     let state = a.state;
-    let selected = select_filter_output(c, count, mode, o);
+    let selected = select_filter_output(core, mode_output_gain, count, mode, o);
     if floats::is_finite(selected) {
         return Sampled::Taken {
             outputs: Outputs {
@@ -289,7 +291,64 @@ fn taken(c: ControlCache, count: usize, mode: u8, moved: Substeps) -> Sampled
     }
 }
 
-// One sample of the filter on kept parts as they are handed in.
+// Whether the sum and the energy are finite and the mixer's inputs at most 7, then what the summer gives.
+fn feed(
+    curves: &[u8],
+    topology: MixingTopology,
+    rest: Read,
+    s: IntegratorState,
+    input_sum: f32,
+    source_energy: f32,
+) -> Fed
+    ensures { λ r. ⌜ r ≡ K.feedOf (now (curves .entry)) topology rest s «input_sum» «source_energy» ⌝ }
+{
+    if floats::is_finite(input_sum) & floats::is_finite(source_energy) {
+        if topology.mixer_input_count <= 7 {
+            if is_idle(topology.filter_input_count, s) {
+                return Fed::Idle;
+            }
+            return summed(curves, topology, rest, input_sum);
+        }
+        return Fed::Refused(Answer::MixerInputs);
+    }
+    Fed::Refused(Answer::InputNotFinite)
+}
+
+// One sample of the filter on kept parts as they are handed in, the summer's rest among them.
+pub fn sample_kept(
+    curves: &[u8],
+    topology: MixingTopology,
+    gains: &[f32; 16],
+    input_drives: &[f32; 16],
+    feedback_drives: &[f32; 16],
+    core: CoreControls,
+    mode_output_gain: f32,
+    rest: Read,
+    mode: u8,
+    s: IntegratorState,
+    input_sum: f32,
+    source_energy: f32,
+) -> Sampled
+    ensures { λ r. ⌜ r ≡ K.sampleKeptOf (now (curves .entry)) topology (K.cacheOf (now (gains .entry)) (now («input_drives» .entry)) (now («feedback_drives» .entry)) core «mode_output_gain») rest mode s «input_sum» «source_energy» ⌝ }
+{
+    let count = topology.filter_output_count;
+    let fed = feed(curves, topology, rest, s, input_sum, source_energy);
+    match fed {
+        Fed::Idle => taken(core, mode_output_gain, count, mode, at_rest(s)),
+        Fed::Refused(answer) => Sampled::Refused { answer },
+        Fed::Level(level) => {
+            let energy = tracked_energy(
+                s.filter_source_energy,
+                fed_energy(topology, source_energy),
+            );
+            let input = level * constants::FILTER_INPUT_GAIN;
+            let moved = moved(gains, input_drives, feedback_drives, core, s, input, energy);
+            taken(core, mode_output_gain, count, mode, moved)
+        }
+    }
+}
+
+// One sample of the filter on the topology and the controls that are handed in.
 pub fn sample(
     bundle: &[u8],
     curves: &[u8],
@@ -302,19 +361,22 @@ pub fn sample(
 ) -> Sampled
     ensures { λ r. ⌜ r ≡ S.sampleOf (now (bundle .entry)) (now (curves .entry)) topology controls mode state «input_sum» «source_energy» ⌝ }
 {
-    let judged = judge_sample(bundle, curves, topology, state, input_sum, source_energy);
-    if answers::is_done(judged) {
-        let f = controls.filter;
-        let moved = advance_filter_core(
-            bundle,
-            curves,
-            topology,
-            f,
-            state,
-            input_sum,
-            source_energy,
-        );
-        return taken(controls, topology.filter_output_count, mode, moved);
-    }
-    Sampled::Refused { answer: judged }
+    let f = controls.filter;
+    let gains = f.integrator_gain;
+    let input_drives = f.input_drive;
+    let feedback_drives = f.feedback_drive;
+    sample_kept(
+        curves,
+        topology,
+        &gains,
+        &input_drives,
+        &feedback_drives,
+        controls::core_controls(f),
+        controls.mode_output_gain,
+        rest_of(bundle, topology),
+        mode,
+        state,
+        input_sum,
+        source_energy,
+    )
 }

@@ -123,12 +123,12 @@ pieces-events (p ∷ ps) l h =
     let r = both (allReadable p) (allReadable (joined ps)) (sym (all-append p (joined ps)) ∙ h) in
     rw (piece-events p (omega arith) (r .0), pieces-events ps (omega arith) (r .1)) (sym (events-append p (joined ps)))
 
-length-slices : (n : ℕ) (b : List ℕ) → length (slicesIn n b) ≡ n
+pub length-slices : (n : ℕ) (b : List ℕ) → length (slicesIn n b) ≡ n
 unfolding slicesIn
 length-slices zero b = refl
 length-slices (suc n) b = ap suc (length-slices n (drop 12 b))
 
-length-events : (bs : List (List ℕ)) → allReadable bs ≡ true → length (eventsIn bs) ≡ length bs
+pub length-events : (bs : List (List ℕ)) → allReadable bs ≡ true → length (eventsIn bs) ≡ length bs
 unfolding allReadable eventsIn
 length-events [] h = refl
 length-events (b ∷ bs) h =

@@ -41,6 +41,12 @@ u16At s p = numberAt 2 s p
 abbrev pub u32At : List ℕ → ℕ → ℕ
 u32At s p = numberAt 4 s p
 
+-- The sixteen numbers of four bytes from p on.
+abbrev pub sixteenAt : List ℕ → ℕ → List ℕ
+sixteenAt s p =
+    u32At s p ∷ u32At s (p + 4) ∷ u32At s (p + 8) ∷ u32At s (p + 12) ∷ u32At s (p + 16) ∷ u32At s (p + 20) ∷ u32At s (p + 24) ∷ u32At s (p + 28)
+    ∷ u32At s (p + 32) ∷ u32At s (p + 36) ∷ u32At s (p + 40) ∷ u32At s (p + 44) ∷ u32At s (p + 48) ∷ u32At s (p + 52) ∷ u32At s (p + 56) ∷ u32At s (p + 60) ∷ []
+
 -- Two bytes as a signed number, in two's complement.
 unfoldable pub i16At : List ℕ → ℕ → ℤ
 i16At s p = toZ w16 (u16At s p)

@@ -7,7 +7,7 @@ ghost use lib.ListN.{length};
 ghost use lib.Ieee.{binary32, ofBits, toBits};
 ghost use mir.Syntax.{w16};
 ghost use mir.Val.{toZ, ofZ};
-ghost use Rattle.wire.specs.Wire.{little, byteAt, u16At, i16At, u32At, f32At, usable, usableAt, finiteBits, bytesOf, floatBytes, rowBytes, putAt};
+ghost use Rattle.wire.specs.Wire.{little, byteAt, u16At, i16At, u32At, sixteenAt, f32At, usable, usableAt, finiteBits, bytesOf, floatBytes, rowBytes, putAt};
 ghost use Rattle.wire.specs.First.{firstUnusable, blockUsable};
 
 // ---- numbers and their bits
@@ -135,7 +135,62 @@ pub fn u32_at(s: &[u8], p: usize) -> u32
     0
 }
 
-// The same four bytes as a float, whatever their pattern.
+// Sixteen words side by side that are there.
+fn sixteen(s: &[u8], p: usize) -> [u32; 16]
+    requires { ⌜ p + 64 ≤ length (now s) ⌝ }
+    ensures { λ r. ⌜ r ≡ sixteenAt (now (s .entry)) p ⌝ }
+{
+    [
+        word(s, p),
+        word(s, p + 4),
+        word(s, p + 8),
+        word(s, p + 12),
+        word(s, p + 16),
+        word(s, p + 20),
+        word(s, p + 24),
+        word(s, p + 28),
+        word(s, p + 32),
+        word(s, p + 36),
+        word(s, p + 40),
+        word(s, p + 44),
+        word(s, p + 48),
+        word(s, p + 52),
+        word(s, p + 56),
+        word(s, p + 60),
+    ]
+}
+
+// The sixteen words from a place on, each 0 where it is not all there; one test of the length serves them all.
+pub fn sixteen_at(s: &[u8], place: u32) -> [u32; 16]
+    ensures { λ r. ⌜ r ≡ sixteenAt (now (s .entry)) place ⌝ }
+{
+    let p = place as usize;
+    if 64 <= s.len() {
+        if p <= s.len() - 64 {
+            return sixteen(s, p);
+        }
+    }
+    [
+        u32_at(s, p),
+        u32_at(s, p + 4),
+        u32_at(s, p + 8),
+        u32_at(s, p + 12),
+        u32_at(s, p + 16),
+        u32_at(s, p + 20),
+        u32_at(s, p + 24),
+        u32_at(s, p + 28),
+        u32_at(s, p + 32),
+        u32_at(s, p + 36),
+        u32_at(s, p + 40),
+        u32_at(s, p + 44),
+        u32_at(s, p + 48),
+        u32_at(s, p + 52),
+        u32_at(s, p + 56),
+        u32_at(s, p + 60),
+    ]
+}
+
+// The four bytes at a place as a float, whatever their pattern.
 pub fn f32_at(s: &[u8], p: usize) -> f32
     ensures { λ r. ⌜ r ≡ f32At (now (s .entry)) p ⌝ }
 {

@@ -9,13 +9,13 @@ operating-position-requires c κs = search needs
 
 between-bins-requires : tie.Need-between-bins-requires
 between-bins-requires c κs =
-    let a = c .before .before .before .before .args in
+    let a = c .before .args in
     both-bins (a .input) (a .s) (c .operating-position .ensures)
 
 between-bins-requires-2 : tie.Need-between-bins-requires-2
 between-bins-requires-2 c κs =
     let z = c .before .before in
-    let a = z .before .before .before .before .args in
+    let a = z .before .args in
     both-bins (a .input) (a .s) (z .operating-position .ensures)
 
 shift-requires : tie.Need-shift-requires
@@ -24,7 +24,7 @@ shift-requires c κs = search needs
 between-bins-requires-3 : tie.Need-between-bins-requires-3
 between-bins-requires-3 c κs =
     let z = c .before .before .before .before in
-    let a = z .before .before .before .before .args in
+    let a = z .before .args in
     both-bins (a .input) (a .s) (z .operating-position .ensures)
 
 coefficients-requires : tie.Need-coefficients-requires

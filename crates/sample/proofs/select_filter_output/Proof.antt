@@ -15,8 +15,8 @@ mixed-requires c κs = search needs
 returns : tie.Need-returns
 unfolding selectOf
 returns c =
-    let z = c .before .before .before in
-    simp (z .before .filter-mode-quiescent-level .ensures, z .of-usize .ensures, c .before .before .mixed .ensures)
+    let z = c .before .before in
+    simp (z .before .filter-mode-quiescent-level .ensures, z .of-usize .ensures, c .before .mixed .ensures)
 
 pub select-filter-output-spec : {M : Type 1} → statement M
 select-filter-output-spec =

@@ -1,8 +1,8 @@
 use borrow.Author.Tests.{le-leb, lt-leb}
-use Rattle.sample.specs.Sample.{judgeSampleOf}
+use Rattle.sample.specs.Kept.{feedOf}
 use borrow.Author.Needs.{needs}
-use Rattle.sample.proofs.judge_sample.Statement.{statement}
-use Rattle.sample.proofs.judge_sample.Tie as tie
+use Rattle.sample.proofs.feed.Statement.{statement}
+use Rattle.sample.proofs.feed.Tie as tie
 
 is-finite-requires : tie.Need-is-finite-requires
 is-finite-requires c κs = search needs
@@ -14,39 +14,39 @@ is-idle-requires : tie.Need-is-idle-requires
 is-idle-requires c κs = search needs
 
 returns : tie.Need-returns
-unfolding judgeSampleOf
+unfolding feedOf
 returns c =
     let z = c .before .before .before .before in
     simp (← z .before .before .is-finite .ensures, ← z .before .is-finite2 .ensures, z .if1 .taken, le-leb _ _ (c .before .before .if2 .taken), ← c .before .is-idle .ensures, c .if3 .taken)
 
-judge-summer-requires : tie.Need-judge-summer-requires
-judge-summer-requires c κs = search needs
+summed-requires : tie.Need-summed-requires
+summed-requires c κs = search needs
 
 returns-2 : tie.Need-returns-2
-unfolding judgeSampleOf
+unfolding feedOf
 returns-2 c =
     let z = c .before .before .before .before .before in
-    simp (← z .before .before .is-finite .ensures, ← z .before .is-finite2 .ensures, z .if1 .taken, le-leb _ _ (c .before .before .before .if2 .taken), ← c .before .before .is-idle .ensures, c .before .if3 .left) (c .judge-summer .ensures)
+    simp (← z .before .before .is-finite .ensures, ← z .before .is-finite2 .ensures, z .if1 .taken, le-leb _ _ (c .before .before .before .if2 .taken), ← c .before .before .is-idle .ensures, c .before .if3 .left) (c .summed .ensures)
 
 returns-3 : tie.Need-returns-3
-unfolding judgeSampleOf
+unfolding feedOf
 returns-3 c =
     let z = c .before .before in
     simp (← z .before .before .is-finite .ensures, ← z .before .is-finite2 .ensures, z .if1 .taken, lt-leb _ _ (c .if2 .left))
 
 returns-4 : tie.Need-returns-4
-unfolding judgeSampleOf
+unfolding feedOf
 returns-4 c = simp (← c .before .before .is-finite .ensures, ← c .before .is-finite2 .ensures, c .if1 .left)
 
-pub judge-sample-spec : {M : Type 1} → statement M
-judge-sample-spec =
+pub feed-spec : {M : Type 1} → statement M
+feed-spec =
     tie.close
     (tie.spec
     is-finite-requires
     is-finite-requires-2
     is-idle-requires
     returns
-    judge-summer-requires
+    summed-requires
     returns-2
     returns-3
     returns-4)

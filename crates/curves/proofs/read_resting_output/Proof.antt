@@ -1,0 +1,36 @@
+use borrow.Author.Tests.{le-leb, lt-leb}
+use Rattle.bundle.specs.Opening.{judgePlacesOf}
+use Rattle.bundle.specs.Reading.{readOf}
+use Rattle.curves.specs.Sampling.{restingOutputOf, restingPlacesOf}
+use borrow.Author.Needs.{needs}
+use Rattle.curves.proofs.read_resting_output.Statement.{statement}
+use Rattle.curves.proofs.read_resting_output.Tie as tie
+
+of-usize-requires : tie.Need-of-usize-requires
+of-usize-requires c κs = search needs
+
+filter-mode-quiescent-level-requires : tie.Need-filter-mode-quiescent-level-requires
+filter-mode-quiescent-level-requires c κs = search needs
+
+read-sample-requires : tie.Need-read-sample-requires
+read-sample-requires c κs = search needs
+
+returns : tie.Need-returns
+unfolding restingOutputOf restingPlacesOf
+returns c =
+    let z = c .before .before .before in
+    simp (le-leb _ _ (z .if1 .taken), c .read-sample .ensures, c .before .filter-mode-quiescent-level .ensures, c .before .before .of-usize .ensures)
+
+returns-2 : tie.Need-returns-2
+unfolding restingOutputOf restingPlacesOf judgePlacesOf readOf
+returns-2 c = rw (lt-leb _ _ (c .if1 .left))
+
+pub read-resting-output-spec : {M : Type 1} → statement M
+read-resting-output-spec =
+    tie.close
+    (tie.spec
+    of-usize-requires
+    filter-mode-quiescent-level-requires
+    read-sample-requires
+    returns
+    returns-2)

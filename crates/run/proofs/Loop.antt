@@ -1,0 +1,458 @@
+-- The events of a script, as the loop takes them: samples in a row, then one event that is none. What it has done, and what is left, is the whole run.
+use Prim.Native.Nat.{ℕ, zero, suc, _+_, _-_, _*_, _≤_, _<_}
+use native.Mathlib.Omega.{arith}
+use native.Mathlib.Nat.{zero-add, add-zero, add-assoc}
+use native.Mathlib.Numerals.{add-one}
+use mathlib.Core.Path.{_≡_, refl, sym, ap, _∙_, subst}
+use mathlib.Core.Bool.{Bool, true, false, not, cond, _&&_, true≢false}
+use lib.Dec.{leb, ltb}
+use lib.Ieee.Scale.{finite}
+use borrow.Author.Tests.{ltb-false, ltb-true}
+use mathlib.Core.List.{List, [], _∷_, _++_, append-assoc, append-nil}
+use lib.ListN.{length, drop, length-append}
+use Rattle.answers.specs.declared.Answer.{Answer}
+use Rattle.answers.specs.declared.Answer.the-variants.{Done, InputNotFinite, MixerInputs}
+use Rattle.answers.specs.Answers.{firstOf, unlessOf, isDoneOf}
+use Rattle.answers.proofs.Laws.{done-is}
+use Rattle.wire.specs.Wire.{putAt}
+use Rattle.wire.proofs.Laws.{both, length-putAt, putAt-nil, putAt-join}
+use Rattle.integrator.specs.declared.IntegratorState.{IntegratorState}
+use Rattle.control.specs.declared.State.{State}
+use Rattle.control.specs.Registers.{startingState, writeCutoffLowOf, writeCutoffHighOf, writeSignalRoutingOf, writeModeAndVolumeOf}
+use Rattle.controls.specs.Controls.{controlsOf}
+use Rattle.controls.specs.Judging.{judgeControlsOf}
+use Rattle.sample.specs.declared.Outputs.{Outputs}
+use Rattle.sample.specs.declared.Sampled.{Sampled}
+use Rattle.sample.specs.declared.Sampled.the-variants.{Taken, Refused}
+use Rattle.sample.specs.Sample.{sampleOf}
+use Rattle.script.specs.declared.Event.{Event}
+use Rattle.script.specs.declared.Event.the-variants.{CutoffLow, CutoffHigh, Routing, Mode, Sample, Reset}
+use Rattle.script.specs.declared.Decoded.{Decoded}
+use Rattle.script.specs.declared.Decoded.the-variants.{Readable, Unreadable}
+use Rattle.script.specs.Script as S
+use Rattle.script.specs.Script.{eventAt, allReadable, eventsIn, samplesOf}
+use Rattle.script.proofs.Laws.{slicesFrom, all-next, events-next, all-stop, events-end}
+use Rattle.script.proofs.Cut.{length-slices, length-events}
+use Rattle.filter.specs.declared.Core.{Core}
+use Rattle.filter.specs.Core.{freshTopologyOf, coreOf, withIntegrator, judgeLentOf, fedOf}
+use Rattle.filter.specs.declared.Fed.{Fed}
+use Rattle.filter.specs.Lists.{shown, Fresh}
+use Rattle.filter.specs.Plain.{Plain, refusedAt, plainChange, plainTaken, plainSample, plainStep}
+use Rattle.filter.proofs.Demand3.{Kept, steps, refuses, sample-refuses, sample-plain}
+use Rattle.run.specs.declared.Row.{Row}
+use Rattle.run.specs.declared.Played.{Played}
+use Rattle.run.specs.Run.{Ran, stopped, went, playOf, sampleBytes}
+use Rattle.run.specs.Rows.{Samples, askedOf, noSamples, oneMore, rowOn, rowOf, rowEnd, playEnd, resumedOf}
+use Rattle.run.proofs.Bytes.{length-outputs, outputs-append}
+use Rattle.run.proofs.Cutting.{Good, good-step}
+
+-- ---- the events left
+
+module _ (script : List ℕ) (count : ℕ) where
+  abbrev left : ℕ → List Event
+  left i = eventsIn (slicesFrom script count i)
+
+  pub later : (n i : ℕ) → i + n ≤ count → allReadable (slicesFrom script count i) ≡ true → (allReadable (slicesFrom script count (i + n)) ≡ true) × (drop n (left i) ≡ left (i + n))
+  later zero i h r = rw (add-zero i) (r, refl)
+  later (suc n) i h r = go (eventAt script (8 + 12 * i)) refl (later n (i + 1))
+    where
+      more : i < count
+      more = omega arith
+
+      go : (d : Decoded) → eventAt script (8 + 12 * i) ≡ d
+          → (i + 1 + n ≤ count → allReadable (slicesFrom script count (i + 1)) ≡ true → (allReadable (slicesFrom script count (i + 1 + n)) ≡ true) × (drop n (left (i + 1)) ≡ left (i + 1 + n)))
+          → (allReadable (slicesFrom script count (i + suc n)) ≡ true) × (drop (suc n) (left i) ≡ left (i + suc n))
+      go (Readable e) d on =
+          let p = on (omega arith) (sym (all-next script count i more e d) ∙ r) in
+          let k : i + 1 + n ≡ i + suc n = omega arith in
+          rw (← k) (p .0, ap (drop (suc n)) (events-next script count i more e d) ∙ p .1)
+      go Unreadable d on = absurd (true≢false (sym r ∙ all-stop script count i more d))
+
+  pub length-left : (i : ℕ) → allReadable (slicesFrom script count i) ≡ true → length (left i) ≡ count - i
+  length-left i r = length-events (slicesFrom script count i) r ∙ length-slices (count - i) (drop (8 + 12 * i) script)
+
+-- ---- samples in a row are the plain machine's
+
+module _ (bundle curves : List ℕ) (lent : judgeLentOf bundle curves ≡ Done) where
+  abbrev play : State → List Event → Ran
+  play s es = playOf bundle curves s es
+
+  -- on what is worked out from the state
+  abbrev rowAt : State → IntegratorState → List Event → Samples
+  rowAt s i es = rowOf bundle curves (freshTopologyOf s) (controlsOf bundle s) (s .registers .mode) i es
+
+  abbrev freshRow : State → List Event → Samples
+  freshRow s es = rowAt s (s .integrator) es
+
+  abbrev resumed : State → Samples → State
+  resumed s w = withIntegrator s (w .integrator)
+
+  -- the row, and then the rest if it was not refused
+  abbrev rowThen : State → Samples → Ran → Ran
+  rowThen s w r =
+      cond (isDoneOf (w .answer))
+      (record { answer = r .answer; events = w .events + r .events; samples = w .outputs ++ r .samples; state = r .state })
+      (record { answer = w .answer; events = w .events; samples = w .outputs; state = resumed s w })
+
+  pub record RowLaw (s : State) (es : List Event) (w : Samples) : Type 0 where
+    pub same : play s es ≡ rowThen s w (play (resumed s w) (drop (w .events) es))
+    pub good : Good bundle curves (resumed s w)
+    pub within : w .events ≤ length es
+    pub equal : w .events ≡ length (w .outputs)
+    pub rest : samplesOf es ≡ length (w .outputs) + samplesOf (drop (w .events) es)
+    -- where it is not refused, no sample is next
+    pub ends : (e : Event) (fs : List Event) → isDoneOf (w .answer) ≡ true → drop (w .events) es ≡ e ∷ fs → askedOf e .sample ≡ false
+
+  module _ (s : State) (good : Good bundle curves s) where
+    quiet-row : (es : List Event) → ((e : Event) (fs : List Event) → es ≡ e ∷ fs → askedOf e .sample ≡ false) → RowLaw s es (noSamples Done (s .integrator))
+    quiet-row es h =
+        record {
+          same = rw (zero-add (play s es .events)) refl;
+          good = good;
+          within = omega arith;
+          equal = refl;
+          rest = sym (zero-add (samplesOf es));
+          ends = λ e fs d p. h e fs p;
+        }
+
+    refused-row : (e : Event) (es : List Event) (answer : Answer) → isDoneOf answer ≡ false → plainStep bundle curves s e .answer ≡ answer → RowLaw s (e ∷ es) (noSamples answer (s .integrator))
+    unfolding playOf
+    refused-row e es answer off is =
+        record {
+          same = rw (is, off) refl;
+          good = good;
+          within = omega arith;
+          equal = refl;
+          rest = sym (zero-add (samplesOf (e ∷ es)));
+          ends = λ f fs d p. absurd (true≢false (sym d ∙ off));
+        }
+
+    taken-row : (sum energy : _) (es : List Event) (o : Outputs) (j : IntegratorState) → plainStep bundle curves s (Sample sum energy) ≡ record { answer = Done; sample = o ∷ []; state = withIntegrator s j }
+        → (w : Samples) → RowLaw (withIntegrator s j) es w → RowLaw s (Sample sum energy ∷ es) (oneMore o w)
+    unfolding playOf samplesOf
+    taken-row sum energy es o j is w law =
+        let within = law .within in
+        record {
+          same = rw (is) (ap (went (record { answer = Done; sample = o ∷ []; state = withIntegrator s j })) (law .same) ∙ on (isDoneOf (w .answer)) (play (resumed s w) (drop (w .events) es)));
+          good = law .good;
+          within = omega arith;
+          equal = ap suc (law .equal);
+          rest = omega (arith, law .rest);
+          ends = law .ends;
+        }
+      where
+        on : (d : Bool) (r : Ran)
+            → went (record { answer = Done; sample = o ∷ []; state = withIntegrator s j })
+            (cond d (record { answer = r .answer; events = w .events + r .events; samples = w .outputs ++ r .samples; state = r .state }) (record { answer = w .answer; events = w .events; samples = w .outputs; state = resumed s w }))
+            ≡ cond d (record { answer = r .answer; events = suc (w .events) + r .events; samples = (o ∷ w .outputs) ++ r .samples; state = r .state }) (record { answer = w .answer; events = suc (w .events); samples = o ∷ w .outputs; state = resumed s w })
+        on true r = let k : suc (w .events + r .events) ≡ suc (w .events) + r .events = omega arith in rw k refl
+        on false r = refl
+
+  -- the controls do not depend on the integrator
+  moved : (s : State) (j : IntegratorState) (es : List Event) → RowLaw (withIntegrator s j) es (freshRow (withIntegrator s j) es) → RowLaw (withIntegrator s j) es (rowAt s j es)
+  unfolding controlsOf
+  moved s j es law = law
+
+  off : (x : Sampled) (answer : Answer) → refuses x ≡ true → x ≡ Refused answer → isDoneOf answer ≡ false
+  unfolding refuses
+  off x answer r h = go (isDoneOf answer) (sym (ap refuses h) ∙ r)
+    where
+      go : (d : Bool) → not d ≡ true → d ≡ false
+      go true n = absurd (true≢false (sym n))
+      go false n = refl
+
+  pub row-law : (s : State) (es : List Event) → Good bundle curves s → RowLaw s es (freshRow s es)
+  unfolding rowOf
+  row-law s [] good = quiet-row s good [] (λ e fs p. cc)
+  row-law s (CutoffLow v ∷ es) good = quiet-row s good (CutoffLow v ∷ es) (λ e fs p. cc)
+  row-law s (CutoffHigh v ∷ es) good = quiet-row s good (CutoffHigh v ∷ es) (λ e fs p. cc)
+  row-law s (Routing v ∷ es) good = quiet-row s good (Routing v ∷ es) (λ e fs p. cc)
+  row-law s (Mode v ∷ es) good = quiet-row s good (Mode v ∷ es) (λ e fs p. cc)
+  row-law s (Reset ∷ es) good = quiet-row s good (Reset ∷ es) (λ e fs p. cc)
+  row-law s (Sample sum energy ∷ es) good =
+      go (sampleOf bundle curves (freshTopologyOf s) (controlsOf bundle s) (s .registers .mode) (s .integrator) sum energy) refl (λ t. row-law t es)
+    where
+      plain : (x : Sampled) → sampleOf bundle curves (freshTopologyOf s) (controlsOf bundle s) (s .registers .mode) (s .integrator) sum energy ≡ x → plainStep bundle curves s (Sample sum energy) ≡ plainTaken s x
+      plain x h = sym (sample-plain bundle curves s sum energy lent (good .valid) (good .judged)) ∙ ap (plainTaken s) h
+
+      go : (x : Sampled) → sampleOf bundle curves (freshTopologyOf s) (controlsOf bundle s) (s .registers .mode) (s .integrator) sum energy ≡ x
+          → ((t : State) → Good bundle curves t → RowLaw t es (freshRow t es))
+          → RowLaw s (Sample sum energy ∷ es) (rowOn (λ j. rowAt s j es) (s .integrator) x)
+      go (Taken o j) h on =
+          let p = plain (Taken o j) h in
+          let g : Good bundle curves (withIntegrator s j) = subst (λ (x : Plain). Good bundle curves (x .state)) p (good-step bundle curves lent s (Sample sum energy) good) in
+          taken-row s good sum energy es o j p (rowAt s j es) (moved s j es (on (withIntegrator s j) g))
+      go (Refused answer) h on = refused-row s good (Sample sum energy) es answer (off _ answer (sample-refuses bundle curves (freshTopologyOf s) (controlsOf bundle s) (s .registers .mode) (s .integrator) sum energy) h) (ap (λ (x : Plain). x .answer) (plain (Refused answer) h))
+
+-- ---- samples that an event gives
+
+change-quiet : (bundle : List ℕ) (s t : State) → plainChange bundle s t .sample ≡ []
+change-quiet bundle s t = go (isDoneOf (judgeControlsOf bundle t))
+  where
+    go : (d : Bool) → _≡_ {A = List Outputs} (cond d (record { answer = Done; sample = []; state = t }) (refusedAt s (judgeControlsOf bundle t)) .sample) []
+    go true = refl
+    go false = refl
+
+no-sample : (bundle curves : List ℕ) (s : State) (e : Event) → askedOf e .sample ≡ false → plainStep bundle curves s e .sample ≡ []
+no-sample bundle curves s (CutoffLow v) h = change-quiet bundle s (writeCutoffLowOf s v)
+no-sample bundle curves s (CutoffHigh v) h = change-quiet bundle s (writeCutoffHighOf s v)
+no-sample bundle curves s (Routing v) h = change-quiet bundle s (writeSignalRoutingOf s v)
+no-sample bundle curves s (Mode v) h = change-quiet bundle s (writeModeAndVolumeOf s v)
+no-sample bundle curves s (Sample sum energy) h = absurd (true≢false h)
+no-sample bundle curves s Reset h = change-quiet bundle s startingState
+
+sample-few : (s : State) (d : Bool) (x : Sampled) (a : Answer) → length (cond d (plainTaken s x) (refusedAt s a) .sample) ≤ 1
+sample-few s true (Taken o j) a = omega arith
+sample-few s true (Refused b) a = omega arith
+sample-few s false x a = omega arith
+
+step-few : (bundle curves : List ℕ) (s : State) (e : Event) → length (plainStep bundle curves s e .sample) ≤ S.sampleOf e
+unfolding plainSample
+step-few bundle curves s (Sample sum energy) =
+    let topology = freshTopologyOf s in
+    let judged = firstOf (unlessOf (finite sum && finite energy) InputNotFinite) (firstOf (unlessOf (leb (topology .«mixer_input_count») 7) MixerInputs) (judgeControlsOf bundle s)) in
+    sample-few s (isDoneOf judged) (sampleOf bundle curves topology (controlsOf bundle s) (s .registers .mode) (s .integrator) sum energy) judged
+step-few bundle curves s (CutoffLow v) = rw (no-sample bundle curves s (CutoffLow v) refl) (omega arith)
+step-few bundle curves s (CutoffHigh v) = rw (no-sample bundle curves s (CutoffHigh v) refl) (omega arith)
+step-few bundle curves s (Routing v) = rw (no-sample bundle curves s (Routing v) refl) (omega arith)
+step-few bundle curves s (Mode v) = rw (no-sample bundle curves s (Mode v) refl) (omega arith)
+step-few bundle curves s Reset = rw (no-sample bundle curves s Reset refl) (omega arith)
+
+pub played-few : (bundle curves : List ℕ) (s : State) (es : List Event) → length (playOf bundle curves s es .samples) ≤ samplesOf es
+unfolding playOf samplesOf
+played-few bundle curves s [] = omega arith
+played-few bundle curves s (e ∷ es) = go (isDoneOf (plainStep bundle curves s e .answer)) (played-few bundle curves (plainStep bundle curves s e .state) es)
+  where
+    go : (d : Bool) → length (playOf bundle curves (plainStep bundle curves s e .state) es .samples) ≤ samplesOf es
+        → length (cond d (went (plainStep bundle curves s e) (playOf bundle curves (plainStep bundle curves s e .state) es)) (stopped (plainStep bundle curves s e .answer) s) .samples) ≤ S.sampleOf e + samplesOf es
+    go true h =
+        let p = plainStep bundle curves s e in
+        let r = playOf bundle curves (p .state) es in
+        let l = length-append (p .sample) (r .samples) in
+        let f = step-few bundle curves s e in
+        omega arith
+    go false h = omega arith
+
+-- ---- the loop
+
+module _ (bundle curves script : List ℕ) (count : ℕ) (s₀ : State) (out₀ : List ℕ) where
+  abbrev remaining : ℕ → List Event
+  remaining i = eventsIn (slicesFrom script count i)
+
+  abbrev whole : Ran
+  whole = playOf bundle curves s₀ (remaining 0)
+
+  -- before event i: what is left of the run, put after what is done, is the whole run
+  pub record Sofar (out : List ℕ) (s : State) (samples i : ℕ) : Type 0 where
+    pub within : i ≤ count
+    pub few : samples ≤ i
+    pub readable : allReadable (slicesFrom script count i) ≡ true
+    pub good : Good bundle curves s
+    pub long : length out ≡ length out₀
+    pub room : 16 * (samples + samplesOf (remaining i)) ≤ length out
+    pub ends : playEnd i samples (playOf bundle curves s (remaining i)) ≡ playEnd 0 0 whole
+    pub puts : putAt out (16 * samples) (sampleBytes (playOf bundle curves s (remaining i) .samples)) ≡ putAt out₀ 0 (sampleBytes (whole .samples))
+
+  abbrev Finished : Answer → ℕ → ℕ → State → List ℕ → Type 0
+  Finished answer i samples s out = (_≡_ {A = Played} (record { answer = answer; events = i; samples = samples; state = s }) (playEnd 0 0 whole)) × (out ≡ putAt out₀ 0 (sampleBytes (whole .samples)))
+
+  -- a run that ends here
+  finishes : (answer : Answer) (i samples : ℕ) (s : State) (out : List ℕ) (r : Ran) → r ≡ stopped answer s → playEnd i samples r ≡ playEnd 0 0 whole → putAt out (16 * samples) (sampleBytes (r .samples)) ≡ putAt out₀ 0 (sampleBytes (whole .samples)) → Finished answer i samples s out
+  unfolding sampleBytes
+  finishes answer i samples s out r h ends puts = (
+    sym (ap (playEnd i samples) h ∙ rw (add-zero i, add-zero samples) refl) ∙ ends,
+    sym (ap (λ (x : Ran). putAt out (16 * samples) (sampleBytes (x .samples))) h ∙ putAt-nil out (16 * samples)) ∙ puts,
+  )
+
+  pub sofar-start : Good bundle curves s₀ → allReadable (slicesFrom script count 0) ≡ true → 16 * samplesOf (remaining 0) ≤ length out₀ → Sofar out₀ s₀ 0 0
+  sofar-start g r m = record { within = omega arith; few = omega arith; readable = r; good = g; long = refl; room = omega arith; ends = refl; puts = refl }
+
+  module _ (lent : judgeLentOf bundle curves ≡ Done) (out : List ℕ) (s : State) (samples i : ℕ) (far : Sofar out s samples i) where
+    pub at-end : count ≤ i → Finished Done i samples s out
+    unfolding playOf
+    at-end h = finishes Done i samples s out (playOf bundle curves s (remaining i)) (ap (playOf bundle curves s) (events-end script count i h)) (far .ends) (far .puts)
+
+    -- the samples in a row from here
+    abbrev row : Samples
+    row = freshRow bundle curves lent s (remaining i)
+
+    abbrev rowBytes : List ℕ
+    rowBytes = sampleBytes (row .outputs)
+
+    law : RowLaw bundle curves lent s (remaining i) row
+    law = row-law bundle curves lent s (remaining i) (far .good)
+
+    row-within : i + row .events ≤ count
+    row-within =
+        let w = law .within in
+        let l = length-left script count i (far .readable) in
+        let k = far .within in
+        omega arith
+
+    on : (allReadable (slicesFrom script count (i + row .events)) ≡ true) × (drop (row .events) (remaining i) ≡ remaining (i + row .events))
+    on = later script count (row .events) i row-within (far .readable)
+
+    module _ (d : isDoneOf (row .answer) ≡ true) where
+      abbrev then : Ran
+      then = playOf bundle curves (withIntegrator s (row .integrator)) (remaining (i + row .events))
+
+      row-same : playOf bundle curves s (remaining i) ≡ record { answer = then .answer; events = row .events + then .events; samples = row .outputs ++ then .samples; state = then .state }
+      row-same = law .same ∙ ap (λ (es : List Event). rowThen bundle curves lent s row (playOf bundle curves (withIntegrator s (row .integrator)) es)) (on .1) ∙ rw d refl
+
+      pub row-done : Sofar (putAt out (16 * samples) rowBytes) (withIntegrator s (row .integrator)) (samples + length (row .outputs)) (i + row .events)
+      row-done =
+          let n = length-outputs (row .outputs) in
+          let m = length-outputs (then .samples) in
+          let fewer = played-few bundle curves (withIntegrator s (row .integrator)) (remaining (i + row .events)) in
+          let rest : samplesOf (remaining i) ≡ length (row .outputs) + samplesOf (remaining (i + row .events)) = law .rest ∙ ap (λ (es : List Event). length (row .outputs) + samplesOf es) (on .1) in
+          let room = far .room in
+          let few = far .few in
+          let equal = law .equal in
+          let put = length-putAt out (16 * samples) rowBytes in
+          let joined = length-append (row .outputs) (then .samples) in
+          let p : 16 * samples + length rowBytes ≡ 16 * (samples + length (row .outputs)) = omega arith in
+          let events : i + (row .events + then .events) ≡ i + row .events + then .events = omega arith in
+          let written : samples + length (row .outputs ++ then .samples) ≡ samples + length (row .outputs) + length (then .samples) = omega arith in
+          record {
+            within = row-within;
+            few = omega arith;
+            readable = on .0;
+            good = law .good;
+            long = put ∙ far .long;
+            room = omega arith;
+            ends = sym (ap (playEnd i samples) row-same ∙ rw (events, written) refl) ∙ far .ends;
+            puts =
+                putAt-join out (16 * samples) rowBytes (sampleBytes (then .samples)) (16 * (samples + length (row .outputs))) p (omega arith)
+                ∙ ap (putAt out (16 * samples)) (sym (outputs-append (row .outputs) (then .samples)))
+                ∙ sym (ap (λ (r : Ran). putAt out (16 * samples) (sampleBytes (r .samples))) row-same)
+                ∙ far .puts;
+          }
+
+      -- the next event is no sample
+      pub row-next : (e : Event) → i + row .events < count → eventAt script (8 + 12 * (i + row .events)) ≡ Readable e → askedOf e .sample ≡ false
+      row-next e more is =
+          law .ends e (remaining (i + row .events + 1)) d
+          (on .1 ∙ events-next script count (i + row .events) more e is)
+
+    pub row-stopped : isDoneOf (row .answer) ≡ false → Finished (row .answer) (i + row .events) (samples + length (row .outputs)) (withIntegrator s (row .integrator)) (putAt out (16 * samples) rowBytes)
+    row-stopped d =
+        let is : playOf bundle curves s (remaining i) ≡ record { answer = row .answer; events = row .events; samples = row .outputs; state = withIntegrator s (row .integrator) } = law .same ∙ rw d refl in
+        (sym (ap (playEnd i samples) is) ∙ far .ends, sym (ap (λ (r : Ran). putAt out (16 * samples) (sampleBytes (r .samples))) is) ∙ far .puts)
+
+    -- one event that is no sample
+    module _ (e : Event) (more : i < count) (is : eventAt script (8 + 12 * i) ≡ Readable e) (other : askedOf e .sample ≡ false) where
+      abbrev step : Plain
+      step = plainStep bundle curves s e
+
+      next : remaining i ≡ e ∷ remaining (i + 1)
+      next = events-next script count i more e is
+
+      pub event-done : isDoneOf (step .answer) ≡ true → Sofar out (step .state) samples (i + 1)
+      unfolding playOf samplesOf
+      event-done d =
+          let r = playOf bundle curves (step .state) (remaining (i + 1)) in
+          let same : playOf bundle curves s (remaining i) ≡ record { answer = r .answer; events = suc (r .events); samples = r .samples; state = r .state } = ap (playOf bundle curves s) next ∙ rw (d, no-sample bundle curves s e other) refl in
+          let few = far .few in
+          let room = far .room in
+          let counts : samplesOf (remaining i) ≡ S.sampleOf e + samplesOf (remaining (i + 1)) = ap samplesOf next in
+          let events : i + suc (r .events) ≡ i + 1 + r .events = omega arith in
+          record {
+            within = omega arith;
+            few = omega arith;
+            readable = sym (all-next script count i more e is) ∙ far .readable;
+            good = good-step bundle curves lent s e (far .good);
+            long = far .long;
+            room = omega arith;
+            ends = sym (ap (playEnd i samples) same ∙ rw events refl) ∙ far .ends;
+            puts = sym (ap (λ (x : Ran). putAt out (16 * samples) (sampleBytes (x .samples))) same) ∙ far .puts;
+          }
+
+      pub event-stopped : isDoneOf (step .answer) ≡ false → Finished (step .answer) i samples s out
+      unfolding playOf
+      event-stopped d = finishes (step .answer) i samples s out (playOf bundle curves s (remaining i)) (ap (playOf bundle curves s) next ∙ rw d refl) (far .ends) (far .puts)
+
+    pub readable-here : i < count → eventAt script (8 + 12 * i) ≡ Unreadable → ⊥
+    readable-here more h = true≢false (sym (far .readable) ∙ all-stop script count i more h)
+
+  -- ---- as the code has it
+
+  module _ (lent : judgeLentOf bundle curves ≡ Done) (out : List ℕ) (k : Core) (samples i : ℕ) (fresh : Fresh bundle k) (far : Sofar out (k .state) samples i) where
+    abbrev keptRow : Samples
+    keptRow = rowOf bundle curves (k .topology) (k .controls) (k .state .registers .mode) (k .state .integrator) (remaining i)
+
+    row-fresh : keptRow ≡ row lent out (k .state) samples i far
+    row-fresh = ap (λ (c : Core). rowOf bundle curves (c .topology) (c .controls) (k .state .registers .mode) (k .state .integrator) (remaining i)) fresh
+
+    module _ {r : Row} (is-row : r ≡ rowEnd i samples keptRow) {after : List ℕ} (is-after : after ≡ putAt out (16 * samples) (sampleBytes (keptRow .outputs))) {here : Core} (is-here : here ≡ resumedOf k (r .integrator)) {d : Bool} (is-d : d ≡ isDoneOf (r .answer)) where
+      abbrev w : Samples
+      w = row lent out (k .state) samples i far
+
+      r-is : r ≡ rowEnd i samples w
+      r-is = is-row ∙ ap (rowEnd i samples) row-fresh
+
+      after-is : after ≡ putAt out (16 * samples) (sampleBytes (w .outputs))
+      after-is = is-after ∙ ap (λ (x : Samples). putAt out (16 * samples) (sampleBytes (x .outputs))) row-fresh
+
+      here-is : here ≡ coreOf bundle (withIntegrator (k .state) (w .integrator))
+      unfolding controlsOf
+      here-is = is-here ∙ ap (λ (x : Row). resumedOf k (x .integrator)) r-is ∙ ap (λ (c : Core). record { state = withIntegrator (k .state) (w .integrator); topology = c .topology; controls = c .controls }) fresh
+
+      d-is : d ≡ isDoneOf (w .answer)
+      d-is = is-d ∙ ap (λ (x : Row). isDoneOf (x .answer)) r-is
+
+      pub row-ends : (d && ltb (r .events) count) ≡ false → Finished (r .answer) (r .events) (r .samples) (here .state) after
+      row-ends t = rw (r-is, after-is, here-is) (go (isDoneOf (w .answer)) refl (simp (d-is, r-is) at t))
+        where
+          go : (b : Bool) → isDoneOf (w .answer) ≡ b → (b && ltb (i + w .events) count) ≡ false → Finished (w .answer) (i + w .events) (samples + length (w .outputs)) (withIntegrator (k .state) (w .integrator)) (putAt out (16 * samples) (sampleBytes (w .outputs)))
+          go true h u = rw (done-is (w .answer) h) (at-end lent _ _ _ _ (row-done lent out (k .state) samples i far h) (ltb-false (i + w .events) count u))
+          go false h u = row-stopped lent out (k .state) samples i far h
+
+      module _ (t : (d && ltb (r .events) count) ≡ true) where
+        going : (isDoneOf (w .answer) ≡ true) × (i + w .events < count)
+        going =
+            let p = both d (ltb (r .events) count) t in
+            (sym d-is ∙ p .0, ltb-true (i + w .events) count (ap (λ (x : Row). ltb (x .events) count) (sym r-is) ∙ p .1))
+
+        pub more : r .events < count
+        more = rw r-is (going .1)
+
+        there : Sofar after (here .state) (r .samples) (r .events)
+        there = rw (r-is, after-is, here-is) (row-done lent out (k .state) samples i far (going .0))
+
+        pub unreadable : eventAt script (8 + 12 * r .events) ≡ Unreadable → ⊥
+        unreadable = readable-here lent after (here .state) (r .samples) (r .events) there more
+
+        module _ (e : Event) (is : eventAt script (8 + 12 * r .events) ≡ Readable e) {fed : Fed} (is-fed : fed ≡ fedOf bundle curves here e) {b : Bool} (is-b : b ≡ isDoneOf (fed .answer)) where
+          other : askedOf e .sample ≡ false
+          other = row-next lent out (k .state) samples i far (going .0) e (going .1) (ap (λ (x : Row). eventAt script (8 + 12 * x .events)) (sym r-is) ∙ is)
+
+          here-kept : Kept bundle here
+          here-kept = record { valid = there .good .valid; fresh = here-is ∙ ap (coreOf bundle) (sym (ap (λ (c : Core). c .state) here-is)); judged = there .good .judged }
+
+          fed-plain : shown e fed ≡ plainStep bundle curves (here .state) e
+          fed-plain = ap (shown e) is-fed ∙ steps bundle curves lent here e here-kept .0
+
+          fed-kept : Kept bundle (fed .core)
+          fed-kept = subst (λ (x : Fed). Kept bundle (x .core)) (sym is-fed) (steps bundle curves lent here e here-kept .1)
+
+          answer-is : (v : Bool) → b ≡ v → isDoneOf (plainStep bundle curves (here .state) e .answer) ≡ v
+          answer-is v h = ap (λ (p : Plain). isDoneOf (p .answer)) (sym fed-plain) ∙ sym is-b ∙ h
+
+          pub goes-on : b ≡ true → Fresh bundle (fed .core) × Sofar after (fed .core .state) (r .samples) (r .events + 1)
+          goes-on h = (
+            fed-kept .fresh,
+            subst (λ (s : State). Sofar after s (r .samples) (r .events + 1)) (ap (λ (p : Plain). p .state) (sym fed-plain))
+                (event-done lent after (here .state) (r .samples) (r .events) there e more is other (answer-is true h)),
+          )
+
+          pub stops : b ≡ false → Finished (fed .answer) (r .events) (r .samples) (here .state) after
+          stops h =
+              subst (λ (a : Answer). Finished a (r .events) (r .samples) (here .state) after) (ap (λ (p : Plain). p .answer) (sym fed-plain))
+              (event-stopped lent after (here .state) (r .samples) (r .events) there e more is other (answer-is false h))
+
+-- a row of samples does not go back
+pub onward : (i n : ℕ) {m : ℕ} → m ≡ i + n → i ≤ m
+onward i n h = omega arith
+
+pub below : (d : Bool) (n count : ℕ) → (d && ltb n count) ≡ true → n < count
+below d n count h = ltb-true n count (both d (ltb n count) h .1)

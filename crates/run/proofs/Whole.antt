@@ -1,0 +1,179 @@
+-- The run around the loop: what it judges first, the start, and the bytes that it leaves.
+use Prim.Native.Nat.{ℕ, _+_, _*_, _/_, _≤_, _<_}
+use native.Mathlib.Omega.{arith}
+use native.Mathlib.Nat.{zero-add, sub-zero}
+use mathlib.Core.Path.{_≡_, refl, sym, ap, _∙_}
+use mathlib.Core.Bool.{Bool, true, false, cond, _&&_, true≢false}
+use mathlib.Core.List.{List, [], _++_}
+use lib.Dec.{eqb, leb}
+use lib.ListN.{length, drop}
+use borrow.Author.Tests.{leb-true, leb-false, le-leb, lt-leb, eq-eqb}
+use Rattle.answers.specs.declared.Answer.{Answer}
+use Rattle.answers.specs.declared.Answer.the-variants.{Done, Argument, Script, OutputLength}
+use Rattle.answers.specs.Answers.{firstOf, unlessOf, isDoneOf}
+use Rattle.answers.proofs.Laws.{done-is, first-done, unless-done}
+use Rattle.wire.specs.Wire.{byteAt, u32At, putAt}
+use Rattle.wire.proofs.Laws.{length-putAt, putAt-in, putAt-nil}
+use Rattle.control.specs.declared.State.{State}
+use Rattle.control.specs.declared.Decoded.{Decoded}
+use Rattle.control.specs.declared.Decoded.the-variants.{Valid, Invalid}
+use Rattle.control.specs.Block.{validOf, blockOf, fieldsOf, decodeOf, encodeOf}
+use Rattle.control.proofs.RoundTrip.{Decodes, decoded}
+use Rattle.controls.specs.Judging.{judgeControlsOf}
+use Rattle.script.specs.declared.Event.{Event}
+use Rattle.script.specs.declared.Checked.{Checked}
+use Rattle.script.specs.declared.Checked.the-variants.{WellFormed, Refused}
+use Rattle.script.specs.Script.{wellFormed, countOf, slicesOf, allReadable, eventsIn, eventsOf, samplesOf, checkOf}
+use Rattle.script.proofs.Laws.{slicesFrom}
+use Rattle.script.proofs.Cut.{Header, header}
+use Rattle.filter.specs.declared.Core.{Core}
+use Rattle.filter.specs.declared.Written.{Written}
+use Rattle.filter.specs.Core.{coreOf, judgeLentOf, judgeStateOf, startAnswerOf, startedOf}
+use Rattle.filter.proofs.Demand3.{Kept, started-kept}
+use Rattle.run.specs.declared.Played.{Played}
+use Rattle.run.specs.declared.Ended.{Ended}
+use Rattle.run.specs.Run.{Ran, stopped, playOf, playedOf, sampleBytes, isValid, judgeBlockOf, judgeScriptOf, judgeRunOf, Run, leftOf, runOf}
+use Rattle.run.specs.Rows.{playEnd, endedOf}
+use Rattle.run.proofs.Bytes.{length-outputs}
+use Rattle.run.proofs.Loop.{played-few}
+
+-- ---- the script
+
+module _ (script : List ℕ) (room : ℕ) where
+  fits-is : (n : ℕ) → leb n (room / 16) ≡ leb (16 * n) room
+  fits-is n = go (leb n (room / 16)) refl
+    where
+      go : (t : Bool) → leb n (room / 16) ≡ t → t ≡ leb (16 * n) room
+      go true h = let le = leb-true n (room / 16) h in sym (le-leb (16 * n) room (omega arith))
+      go false h = let lt = leb-false n (room / 16) h in sym (lt-leb (16 * n) room (omega arith))
+
+  pub script-formed : (events samples : ℕ) {x : Checked} → x ≡ checkOf script → x ≡ WellFormed events samples → unlessOf (leb samples (room / 16)) OutputLength ≡ judgeScriptOf script room
+  unfolding checkOf judgeScriptOf
+  script-formed events samples e h = go (wellFormed script) refl (sym e ∙ h)
+    where
+      go : (t : Bool) → wellFormed script ≡ t → cond t (WellFormed (countOf script) (samplesOf (eventsOf script))) (Refused Script) ≡ WellFormed events samples
+          → unlessOf (leb samples (room / 16)) OutputLength ≡ firstOf (unlessOf t Script) (unlessOf (leb (16 * samplesOf (eventsOf script)) room) OutputLength)
+      go true w p = let n : samples ≡ samplesOf (eventsOf script) = cc in rw (n, fits-is (samplesOf (eventsOf script))) refl
+      go false w p = cc
+
+  pub script-refused : (answer : Answer) {x : Checked} → x ≡ checkOf script → x ≡ Refused answer → answer ≡ judgeScriptOf script room
+  unfolding checkOf judgeScriptOf
+  script-refused answer e h = go (wellFormed script) refl (sym e ∙ h)
+    where
+      go : (t : Bool) → wellFormed script ≡ t → cond t (WellFormed (countOf script) (samplesOf (eventsOf script))) (Refused Script) ≡ Refused answer
+          → answer ≡ firstOf (unlessOf t Script) (unlessOf (leb (16 * samplesOf (eventsOf script)) room) OutputLength)
+      go true w p = cc
+      go false w p = cc
+
+-- ---- what a run that is not turned back has
+
+module _ (bundle curves block script : List ℕ) (room : ℕ) (judged : judgeRunOf bundle curves block script room ≡ Done) where
+  parts : (judgeLentOf bundle curves ≡ Done) × (judgeBlockOf block ≡ Done) × (judgeScriptOf script room ≡ Done)
+  unfolding judgeRunOf
+  parts =
+      let p = first-done (judgeLentOf bundle curves) (firstOf (judgeBlockOf block) (judgeScriptOf script room)) judged in
+      let q = first-done (judgeBlockOf block) (judgeScriptOf script room) (p .1) in
+      (p .0, q .0, q .1)
+
+  pub formed : wellFormed script ≡ true
+  unfolding judgeScriptOf
+  formed = unless-done (wellFormed script) Script refl (first-done (unlessOf (wellFormed script) Script) (unlessOf (leb (16 * samplesOf (eventsOf script)) room) OutputLength) (parts .2) .0)
+
+  pub roomy : 16 * samplesOf (eventsOf script) ≤ room
+  unfolding judgeScriptOf
+  roomy =
+      leb-true (16 * samplesOf (eventsOf script)) room
+      (unless-done (leb (16 * samplesOf (eventsOf script)) room) OutputLength refl
+      (first-done (unlessOf (wellFormed script) Script) (unlessOf (leb (16 * samplesOf (eventsOf script)) room) OutputLength) (parts .2) .1))
+
+  valid-block : isValid (decodeOf block) ≡ true
+  valid-block = unless-done (isValid (decodeOf block)) Argument refl (parts .1)
+
+  pub not-invalid : {x : Decoded} → x ≡ decodeOf block → x ≡ Invalid → ⊥
+  not-invalid e h = true≢false (sym valid-block ∙ ap isValid (sym e ∙ h))
+
+  pub block-long : length block ≡ 24
+  block-long = go (decodeOf block) refl valid-block
+    where
+      go : (x : Decoded) → decodeOf block ≡ x → isValid x ≡ true → length block ≡ 24
+      go (Valid s) e h = decoded block s e .long
+      go Invalid e h = absurd (true≢false (sym h))
+
+  -- the start
+  module _ (s : State) {x : Decoded} (e : x ≡ decodeOf block) (h : x ≡ Valid s) {w : Written} (is : w ≡ startedOf bundle curves s) {d : Bool} (is-d : d ≡ isDoneOf (w .answer)) where
+    decodes : Decodes block s
+    decodes = decoded block s (sym e ∙ h)
+
+    start-is : startAnswerOf bundle curves s ≡ judgeControlsOf bundle s
+    unfolding startAnswerOf
+    start-is = rw (parts .0, decodes .valid) refl
+
+    answer-is : w .answer ≡ judgeControlsOf bundle s
+    answer-is = ap (λ (x : Written). x .answer) is ∙ start-is
+
+    done-here : (v : Bool) → d ≡ v → isDoneOf (judgeControlsOf bundle s) ≡ v
+    done-here v h = ap isDoneOf (sym answer-is) ∙ sym is-d ∙ h
+
+    -- refused by its controls
+    pub start-stops : d ≡ false → (output : List ℕ)
+        → (_≡_ {A = Played} (record { answer = w .answer; events = 0; samples = 0; state = s }) (playEnd 0 0 (playedOf bundle curves (fieldsOf block) (eventsOf script))))
+        × (output ≡ putAt output 0 (sampleBytes (playedOf bundle curves (fieldsOf block) (eventsOf script) .samples)))
+    unfolding playedOf sampleBytes
+    start-stops f output = rw (decodes .fields, answer-is, done-here false f) (refl, sym (putAt-nil output 0))
+
+    module _ (t : d ≡ true) where
+      pub start-kept : Kept bundle (w .core)
+      start-kept = rw is (started-kept bundle curves s (start-is ∙ done-is (judgeControlsOf bundle s) (done-here true t)))
+
+      pub first-is : slicesFrom script (u32At script 0) 0 ≡ slicesOf script
+      first-is = rw (sub-zero (countOf script)) refl
+
+      pub start-plays : {count : ℕ} → count ≡ u32At script 0 → playOf bundle curves (w .core .state) (eventsIn (slicesFrom script count 0)) ≡ playedOf bundle curves (fieldsOf block) (eventsOf script)
+      unfolding playedOf
+      start-plays c = rw (c, decodes .fields, is, done-here true t, first-is) refl
+
+      pub ready : {count : ℕ} → count ≡ u32At script 0
+          → (count ≤ 65536) × (judgeLentOf bundle curves ≡ Done) × Kept bundle (w .core) × (allReadable (slicesFrom script count 0) ≡ true) × (16 * samplesOf (eventsIn (slicesFrom script count 0)) ≤ room)
+      ready c =
+          let k = header script formed in
+          rw (c, first-is) (k .few, parts .0, start-kept, k .readable, roomy)
+
+-- ---- the bytes that are left
+
+module _ (bundle curves block script output : List ℕ) (judged : judgeRunOf bundle curves block script (length output) ≡ Done) where
+  abbrev ran : Ran
+  ran = playedOf bundle curves (fieldsOf block) (eventsOf script)
+
+  ran-few : length (ran .samples) ≤ samplesOf (eventsOf script)
+  unfolding playedOf
+  ran-few = go (isDoneOf (judgeControlsOf bundle (fieldsOf block)))
+    where
+      go : (d : Bool) → length (cond d (playOf bundle curves (fieldsOf block) (eventsOf script)) (stopped (judgeControlsOf bundle (fieldsOf block)) (fieldsOf block)) .samples) ≤ samplesOf (eventsOf script)
+      go true = played-few bundle curves (fieldsOf block) (eventsOf script)
+      go false = omega arith
+
+  front : putAt output 0 (sampleBytes (ran .samples)) ≡ sampleBytes (ran .samples) ++ drop (16 * length (ran .samples)) output
+  front =
+      let n = length-outputs (ran .samples) in
+      let few = ran-few in
+      let room = roomy bundle curves block script (length output) judged in
+      putAt-in output 0 (sampleBytes (ran .samples)) (omega arith)
+      ∙ rw (zero-add (length (sampleBytes (ran .samples))), n) refl
+
+  pub run-done :
+      {p : Played} → p ≡ playEnd 0 0 ran → {after state : List ℕ} → after ≡ putAt output 0 (sampleBytes (ran .samples)) → state ≡ encodeOf (p .state) block
+      → (_≡_ {A = Ended} (record { answer = p .answer; events = p .events; samples = p .samples }) (endedOf (runOf bundle curves block script output)))
+      × ((state ≡ runOf bundle curves block script output .state) × (after ≡ runOf bundle curves block script output .output))
+  unfolding runOf encodeOf
+  run-done is put left =
+      rw (put, left, is, judged, eq-eqb (length block) 24 (block-long bundle curves block script (length output) judged), zero-add (ran .events), zero-add (length (ran .samples)))
+      (refl, (refl, front))
+
+pub run-refused :
+    (bundle curves block script output : List ℕ) {a : Answer} → a ≡ judgeRunOf bundle curves block script (length output) → isDoneOf a ≡ false
+    → (_≡_ {A = Ended} (record { answer = a; events = 0; samples = 0 }) (endedOf (runOf bundle curves block script output)))
+    × ((block ≡ runOf bundle curves block script output .state) × (output ≡ runOf bundle curves block script output .output))
+unfolding runOf
+run-refused bundle curves block script output is off =
+    let d : isDoneOf (judgeRunOf bundle curves block script (length output)) ≡ false = ap isDoneOf (sym is) ∙ off in
+    rw (is, d) (refl, (refl, refl))
