@@ -7,8 +7,6 @@ include!("sid.rs");
 
 mod kept;
 mod numbers;
-#[cfg(stand_in)]
-mod plain;
 mod surface;
 
 use std::hint::black_box;

@@ -8,6 +8,7 @@ include!("sid.rs");
 mod circuit;
 mod core;
 mod direct;
+mod events;
 mod kept;
 mod numbers;
 mod plain;
@@ -24,6 +25,7 @@ fn main() {
     subjects.extend(direct::compare());
     subjects.extend(core::compare());
     subjects.extend(run::compare());
+    subjects.extend(events::compare());
     let mut differences = 0;
     for (name, tally) in &subjects {
         println!("{name}: {} compared, {} differences", tally.compared, tally.differences);

@@ -9,7 +9,7 @@ use crate::surface::{curves_of, data, surface_of, CURVES_LENGTH};
 use crate::tables::AnalogueTransferSurface;
 
 /// The calls under C names, and their structs as `#[repr(C)]` lays them out.
-mod proved {
+pub mod proved {
     #[repr(C)]
     pub struct Reply {
         pub number: u32,
@@ -173,7 +173,7 @@ fn any_topology(random: &mut Random) -> MixingTopology {
     t
 }
 
-fn lent(t: &MixingTopology) -> proved::Topology {
+pub fn lent(t: &MixingTopology) -> proved::Topology {
     proved::Topology {
         filter_membership: t.filter_membership,
         bypass_membership: t.bypass_membership,
@@ -186,16 +186,16 @@ fn lent(t: &MixingTopology) -> proved::Topology {
 // ---- document 01's table
 
 /// Number, buffer and place.
-type Told = (u32, u32, u32);
+pub type Told = (u32, u32, u32);
 
-fn unless(ok: bool, number: u32) -> Option<Told> {
+pub fn unless(ok: bool, number: u32) -> Option<Told> {
     (!ok).then_some((number, 0, 0))
 }
 
 const HEADER: [u32; 14] =
     [6_127_736, 6, 56, 524_288, 2_097_208, 16, 2_097_272, 2_048, 2_105_464, 296_960, 3_293_304, 2_048, 3_301_496, 706_560];
 
-fn bundle_refused(bundle: &[u8]) -> Option<Told> {
+pub fn bundle_refused(bundle: &[u8]) -> Option<Told> {
     let header = HEADER.iter().flat_map(|word| word.to_le_bytes());
     unless(bundle.len() == 6_127_736, 1).or_else(|| {
         let place = bundle.iter().zip(header).position(|(&ours, fixed)| ours != fixed);
@@ -203,25 +203,25 @@ fn bundle_refused(bundle: &[u8]) -> Option<Told> {
     })
 }
 
-fn entries_refused(bytes: &[u8], buffer: u32, places: &[usize]) -> Option<Told> {
+pub fn entries_refused(bytes: &[u8], buffer: u32, places: &[usize]) -> Option<Told> {
     let usable = |place: usize| f32::from_le_bytes(bytes[place..place + 4].try_into().unwrap()).abs() <= 1024.0;
     places.iter().find(|&&place| !usable(place)).map(|&place| (3, buffer, place as u32))
 }
 
-fn curve_places(curve: usize, input: f32) -> [usize; 2] {
+pub fn curve_places(curve: usize, input: f32) -> [usize; 2] {
     let lower = (input.clamp(0.0, 1.0) * 2047.0) as usize;
     [lower, lower + 1].map(|index| 4 * (2049 * curve + index))
 }
 
 /// What the resting output of a count reads: the surface has 16 loads to each unit of conductance.
-fn resting_places(count: usize) -> [usize; 4] {
+pub fn resting_places(count: usize) -> [usize; 4] {
     let column = (filter_mode_quiescent_level() * 2047.0) as usize;
     let entry = |row: usize, column: usize| 2_105_464 + 4 * (2048 * row + column);
     let row = 16 * count;
     [entry(row, column), entry(row, column + 1), entry(row + 1, column), entry(row + 1, column + 1)]
 }
 
-fn summer_average(t: &MixingTopology, sum: f32) -> f32 {
+pub fn summer_average(t: &MixingTopology, sum: f32) -> f32 {
     (sum + 2.0 * filter_mode_quiescent_level()) * t.summer_input_reciprocal
 }
 
@@ -333,7 +333,7 @@ const DAMAGES: [u32; 10] = [
     0x7f7f_ffff, // the largest float
 ];
 
-fn damage(bytes: &mut [u8], place: usize, random: &mut Random) {
+pub fn damage(bytes: &mut [u8], place: usize, random: &mut Random) {
     bytes[place..place + 4].copy_from_slice(&DAMAGES[(random.bits() % 10) as usize].to_le_bytes());
 }
 

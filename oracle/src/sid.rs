@@ -87,6 +87,11 @@ mod filter {
             &mut self.topology
         }
 
+        /// What document 01's core has.
+        pub(super) fn parts(&mut self) -> (&mut FilterRegisters, &mut IntegratorState, &mut MixingTopology, &mut ControlCache) {
+            (&mut self.registers, &mut self.state, &mut self.topology, &mut self.control)
+        }
+
         /// The three transfers on the topology and the volume that the filter has.
         pub(super) fn summer(&self, input_sum: f32) -> f32 {
             self.summer_transfer(input_sum)

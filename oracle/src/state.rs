@@ -16,6 +16,7 @@ pub mod proved {
     }
 
     #[repr(C)]
+    #[derive(Clone, Copy)]
     pub struct FilterControls {
         pub effective_cutoff_index: usize,
         pub integrator_gain: [f32; 16],
@@ -33,6 +34,7 @@ pub mod proved {
     }
 
     #[repr(C)]
+    #[derive(Clone, Copy)]
     pub struct OutputControls {
         pub filter_common_mode: f32,
         pub volume_fraction: f32,
@@ -44,6 +46,7 @@ pub mod proved {
     }
 
     #[repr(C)]
+    #[derive(Clone, Copy)]
     pub struct Controls {
         pub filter: FilterControls,
         pub mode_output_gain: f32,

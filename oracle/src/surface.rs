@@ -38,7 +38,6 @@ pub mod proved {
     unsafe extern "C" {
         fn sid_filter_open(bundle: *const u8, bundle_len: usize) -> Answer;
         fn sid_filter_build_curves(bundle: *const u8, bundle_len: usize, curves: *mut u8, curves_len: usize) -> Answer;
-        #[cfg(not(stand_in))]
         fn sid_filter_run(
             bundle: *const u8,
             bundle_len: usize,
@@ -71,12 +70,6 @@ pub mod proved {
         unsafe { sid_filter_build_curves(bundle.as_ptr(), bundle.len(), curves.as_mut_ptr(), curves.len()) }
     }
 
-    #[cfg(stand_in)]
-    pub fn run(bundle: &[u8], curves: &[u8], state: &mut [u8], script: &[u8], output: &mut [u8]) -> Answer {
-        crate::plain::Machine::new(bundle, curves).run(state, script, output)
-    }
-
-    #[cfg(not(stand_in))]
     pub fn run(bundle: &[u8], curves: &[u8], state: &mut [u8], script: &[u8], output: &mut [u8]) -> Answer {
         let ((bundle, bundle_len), (curves, curves_len)) = ((bundle.as_ptr(), bundle.len()), (curves.as_ptr(), curves.len()));
         let (state, state_len) = (state.as_mut_ptr(), state.len());

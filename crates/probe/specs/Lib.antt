@@ -1,4 +1,5 @@
 pub mod Probe
 pub mod Surface
-pub mod Filter
+pub mod Steps
 pub mod Calls
+pub mod Cores

@@ -1,6 +1,7 @@
 // The lower layers' functions under C names, for oracle/compare to set beside the Rust's. No product links this.
 mod calls;
-mod filter;
+mod cores;
+mod steps;
 mod surface;
 
 ghost use mathlib.Core.Path.{_≡_};

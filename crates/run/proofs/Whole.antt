@@ -1,10 +1,10 @@
 -- The run around the loop: what it judges first, the start, and the bytes that it leaves.
-use Prim.Native.Nat.{ℕ, _+_, _*_, _/_, _≤_, _<_}
+use Prim.Native.Nat.{ℕ, suc, _+_, _*_, _/_, _≤_, _<_}
 use native.Mathlib.Omega.{arith}
 use native.Mathlib.Nat.{zero-add, sub-zero}
 use mathlib.Core.Path.{_≡_, refl, sym, ap, _∙_}
 use mathlib.Core.Bool.{Bool, true, false, cond, _&&_, true≢false}
-use mathlib.Core.List.{List, [], _++_}
+use mathlib.Core.List.{List, [], _∷_, _++_}
 use lib.Dec.{eqb, leb}
 use lib.ListN.{length, drop}
 use borrow.Author.Tests.{leb-true, leb-false, le-leb, lt-leb, eq-eqb}
@@ -24,15 +24,16 @@ use Rattle.script.specs.declared.Event.{Event}
 use Rattle.script.specs.declared.Checked.{Checked}
 use Rattle.script.specs.declared.Checked.the-variants.{WellFormed, Refused}
 use Rattle.script.specs.Script.{wellFormed, countOf, slicesOf, allReadable, eventsIn, eventsOf, samplesOf, checkOf}
-use Rattle.script.proofs.Laws.{slicesFrom}
-use Rattle.script.proofs.Cut.{Header, header}
+use Rattle.script.proofs.Laws.{slicesFrom, sample-le}
+use Rattle.script.proofs.Cut.{Header, header, events-count}
 use Rattle.filter.specs.declared.Core.{Core}
 use Rattle.filter.specs.declared.Written.{Written}
 use Rattle.filter.specs.Core.{coreOf, judgeLentOf, judgeStateOf, startAnswerOf, startedOf}
 use Rattle.filter.proofs.Demand3.{Kept, started-kept}
 use Rattle.run.specs.declared.Played.{Played}
 use Rattle.run.specs.declared.Ended.{Ended}
-use Rattle.run.specs.Run.{Ran, stopped, playOf, playedOf, sampleBytes, isValid, judgeBlockOf, judgeScriptOf, judgeRunOf, Run, leftOf, runOf}
+use Rattle.filter.specs.Plain.{Plain, plainStep}
+use Rattle.run.specs.Run.{Ran, stopped, went, playOf, playedOf, sampleBytes, isValid, judgeBlockOf, judgeScriptOf, judgeRunOf, Run, leftOf, runOf}
 use Rattle.run.specs.Rows.{playEnd, endedOf}
 use Rattle.run.proofs.Bytes.{length-outputs}
 use Rattle.run.proofs.Loop.{played-few}
@@ -177,3 +178,45 @@ unfolding runOf
 run-refused bundle curves block script output is off =
     let d : isDoneOf (judgeRunOf bundle curves block script (length output)) ≡ false = ap isDoneOf (sym is) ∙ off in
     rw (is, d) (refl, (refl, refl))
+
+-- ---- how many events and samples there can be
+
+samples-most : (es : List Event) → samplesOf es ≤ length es
+unfolding samplesOf
+samples-most [] = omega arith
+samples-most (e ∷ es) = omega (arith, sample-le e, samples-most es)
+
+play-most : (bundle curves : List ℕ) (s : State) (es : List Event) → playOf bundle curves s es .events ≤ length es
+unfolding playOf
+play-most bundle curves s [] = omega arith
+play-most bundle curves s (e ∷ es) = go (isDoneOf (plainStep bundle curves s e .answer)) (play-most bundle curves (plainStep bundle curves s e .state) es)
+  where
+    go : (d : Bool) → playOf bundle curves (plainStep bundle curves s e .state) es .events ≤ length es
+        → cond d (went (plainStep bundle curves s e) (playOf bundle curves (plainStep bundle curves s e .state) es)) (stopped (plainStep bundle curves s e .answer) s) .events ≤ suc (length es)
+    go true h = omega arith
+    go false h = omega arith
+
+-- At most 65,536 of each, so that both fit the C interface's u32.
+pub run-most : (bundle curves block script output : List ℕ) → (runOf bundle curves block script output .events ≤ 65536) × (runOf bundle curves block script output .samples ≤ 65536)
+unfolding runOf playedOf
+run-most bundle curves block script output = go (isDoneOf (judgeRunOf bundle curves block script (length output))) refl
+  where
+    go : (d : Bool) → isDoneOf (judgeRunOf bundle curves block script (length output)) ≡ d
+        → (cond d (leftOf (playedOf bundle curves (fieldsOf block) (eventsOf script)) output) (record { answer = judgeRunOf bundle curves block script (length output); events = 0; samples = 0; state = block; output = output }) .events ≤ 65536)
+        × (cond d (leftOf (playedOf bundle curves (fieldsOf block) (eventsOf script)) output) (record { answer = judgeRunOf bundle curves block script (length output); events = 0; samples = 0; state = block; output = output }) .samples ≤ 65536)
+    go true h =
+        let judged = done-is (judgeRunOf bundle curves block script (length output)) h in
+        let f = formed bundle curves block script (length output) judged in
+        let n = events-count script f in
+        let few = header script f .few in
+        let most = samples-most (eventsOf script) in
+        let written = ran-few bundle curves block script output judged in
+        (either (isDoneOf (judgeControlsOf bundle (fieldsOf block))), omega arith)
+      where
+        either : (d : Bool) → cond d (playOf bundle curves (fieldsOf block) (eventsOf script)) (stopped (judgeControlsOf bundle (fieldsOf block)) (fieldsOf block)) .events ≤ 65536
+        either true =
+            let judged = done-is (judgeRunOf bundle curves block script (length output)) h in
+            let f = formed bundle curves block script (length output) judged in
+            omega (arith, play-most bundle curves (fieldsOf block) (eventsOf script), events-count script f, header script f .few)
+        either false = omega arith
+    go false h = (omega arith, omega arith)

@@ -14,6 +14,7 @@ use Rattle.floats.specs.Arithmetic.{f32}
 use Rattle.bundle.specs.Opening.{checkOf, judgePlacesOf}
 use Rattle.curves.specs.declared.LoadPosition.{LoadPosition}
 use Rattle.curves.specs.Sampling.{loadPositionOf, samplePlacesOf, sampleOf, sampleCurvePlacesOf, sampleCurveOf}
+use Rattle.run.specs.Run.{Run}
 use Rattle.sid_filter.specs.declared.RunAnswer.{RunAnswer}
 use Rattle.sid_filter.specs.declared.Positioned.{Positioned}
 use Rattle.sid_filter.specs.declared.Sampled.{Sampled}
@@ -21,6 +22,9 @@ use Rattle.sid_filter.specs.declared.Sampled.{Sampled}
 -- An answer as the C interface has it, with the events done and the samples written.
 abbrev pub runAnswerOf : Answer → ℕ → ℕ → RunAnswer
 runAnswerOf answer events samples = record { number = numberOf answer; events = events; samples = samples; buffer = bufferOf answer; place = placeOf answer }
+
+abbrev pub ranAnswerOf : Run → RunAnswer
+ranAnswerOf r = runAnswerOf (r .answer) (r .events) (r .samples)
 
 -- A value where nothing is refused, else 0.
 abbrev pub valueOf : Answer → Float → Float

@@ -4,7 +4,8 @@ ghost use lib.ListN.{length};
 ghost use Rattle.bundle.specs.Opening.{openOf};
 ghost use Rattle.curves.specs.Building.{buildAnswerOf, builtOf};
 ghost use Rattle.ladder.specs.Calls.{solveTridiagonalOf, ladderWeightsOf, ladderValueOf, buildCutoffControlPositionsOf};
-ghost use Rattle.sid_filter.specs.Calls.{runAnswerOf, valueOf, positionOf, positionedOf, sampledOf, curveSampledOf};
+ghost use Rattle.run.specs.Run.{runOf};
+ghost use Rattle.sid_filter.specs.Calls.{runAnswerOf, ranAnswerOf, valueOf, positionOf, positionedOf, sampledOf, curveSampledOf};
 use answers::Answer;
 use curves::LoadPosition;
 use ladder::Level;
@@ -50,6 +51,25 @@ pub extern "C" fn sid_filter_build_curves(bundle: &[u8], curves: &mut [u8]) -> R
     ensures { λ _. ⌜ now (curves .exit) ≡ builtOf (now (bundle .entry)) (now (curves .entry)) ⌝ }
 {
     run_answer(curves::build(bundle, curves), 0, 0)
+}
+
+// Runs a script from the state in its block: the samples go into the output, the state after them into the block. Refuses 1, 2, 4, 10, 7, 8 and then
+// leaves everything; 3 or 6 of the controls; and event by event 5, 9, 3, 6, with the samples and the state before the stop written.
+#[no_mangle]
+pub extern "C" fn sid_filter_run(
+    bundle: &[u8],
+    curves: &[u8],
+    state: &mut [u8],
+    script: &[u8],
+    output: &mut [u8],
+) -> RunAnswer
+    ensures { λ r. ⌜ r ≡ ranAnswerOf (runOf (now (bundle .entry)) (now (curves .entry)) (now (state .entry)) (now (script .entry)) (now (output .entry))) ⌝ }
+    ensures { λ _. ⌜ now (state .exit) ≡ runOf (now (bundle .entry)) (now (curves .entry)) (now (state .entry)) (now (script .entry)) (now (output .entry)) .state ⌝ }
+    ensures { λ _. ⌜ now (output .exit) ≡ runOf (now (bundle .entry)) (now (curves .entry)) (now (state .entry)) (now (script .entry)) (now (output .entry)) .output ⌝ }
+{
+    let ended = run::run(bundle, curves, state, script, output);
+    let answer = ended.answer;
+    run_answer(answer, ended.events as u32, ended.samples as u32)
 }
 
 // ---- the analogue surface and its curves

@@ -2,7 +2,7 @@
 ghost use mathlib.Core.Path.{_≡_};
 ghost use Rattle.control.specs.Block.{decodeOf};
 ghost use Rattle.probe.specs.Probe.{stateOr};
-ghost use Rattle.probe.specs.Filter.{stepOf, sampledOf};
+ghost use Rattle.probe.specs.Steps.{stepOf, sampledOf};
 use control::Decoded;
 use control::State;
 use mixing::MixingTopology;

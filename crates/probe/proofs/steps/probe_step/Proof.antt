@@ -1,6 +1,6 @@
 use borrow.Author.Needs.{needs}
-use Rattle.probe.proofs.filter.probe_step.Statement.{statement}
-use Rattle.probe.proofs.filter.probe_step.Tie as tie
+use Rattle.probe.proofs.steps.probe_step.Statement.{statement}
+use Rattle.probe.proofs.steps.probe_step.Tie as tie
 
 decode-requires : tie.Need-decode-requires
 decode-requires c κs = search needs

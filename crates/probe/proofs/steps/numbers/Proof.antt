@@ -1,6 +1,6 @@
 use borrow.Author.Needs.{needs}
-use Rattle.probe.proofs.filter.numbers.Statement.{statement}
-use Rattle.probe.proofs.filter.numbers.Tie as tie
+use Rattle.probe.proofs.steps.numbers.Statement.{statement}
+use Rattle.probe.proofs.steps.numbers.Tie as tie
 
 enum-known-s : tie.Need-enum-known-s
 enum-known-s c = search needs

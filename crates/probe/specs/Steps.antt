@@ -10,7 +10,7 @@ use Rattle.controls.specs.Controls.{controlsOf}
 use Rattle.sample.specs.declared.Sampled.{Sampled}
 use Rattle.sample.specs.declared.Sampled.the-variants.{Taken, Refused}
 use Rattle.sample.specs.Sample.{sampleOf}
-use Rattle.probe.specs.declared.filter.Step.{Step}
+use Rattle.probe.specs.declared.steps.Step.{Step}
 
 -- an answer by its numbers, and the numbers of a sample that was taken
 abbrev pub stepOf : Sampled → Step

@@ -1,7 +1,7 @@
-use Rattle.probe.specs.Filter.{sampledOf}
+use Rattle.probe.specs.Steps.{sampledOf}
 use borrow.Author.Needs.{needs}
-use Rattle.probe.proofs.filter.sampled.Statement.{statement}
-use Rattle.probe.proofs.filter.sampled.Tie as tie
+use Rattle.probe.proofs.steps.sampled.Statement.{statement}
+use Rattle.probe.proofs.steps.sampled.Tie as tie
 
 update-requires : tie.Need-update-requires
 update-requires c κs = search needs

@@ -1,0 +1,56 @@
+-- What the comparison asks of the core.
+use Prim.Native.Nat.{ℕ}
+use mathlib.Core.List.{List}
+use mir.Syntax.{w16}
+use mir.Val.{toZ, ofZ}
+use Rattle.answers.specs.declared.Answer.the-variants.{Script}
+use Rattle.answers.specs.Answers.{numberOf, bufferOf, placeOf}
+use Rattle.control.specs.declared.FilterRegisters.{FilterRegisters}
+use Rattle.script.specs.declared.Decoded.{Decoded}
+use Rattle.script.specs.declared.Decoded.the-variants.{Readable, Unreadable}
+use Rattle.filter.specs.declared.Core.{Core}
+use Rattle.filter.specs.declared.Fed.{Fed}
+use Rattle.filter.specs.Core.{noOutputs, fedOf}
+use Rattle.probe.specs.declared.cores.Registers.{Registers}
+use Rattle.probe.specs.declared.cores.Handed.{Handed}
+use Rattle.probe.specs.declared.cores.Given.{Given}
+
+-- the displacement goes by its sixteen bits
+abbrev pub registersOf : Registers → FilterRegisters
+registersOf r = record {
+  cutoff = r .cutoff;
+  «cutoff_dac_displacement_codes» = toZ w16 (r .displacement);
+  «cutoff_write_base» = r .«write_base»;
+  «cutoff_low_pending» = r .pending;
+  resonance = r .resonance;
+  routing = r .routing;
+  mode = r .mode;
+  volume = r .volume;
+}
+
+abbrev pub registeredOf : FilterRegisters → Registers
+registeredOf r = record {
+  cutoff = r .cutoff;
+  displacement = ofZ w16 (r .«cutoff_dac_displacement_codes»);
+  «write_base» = r .«cutoff_write_base»;
+  pending = r .«cutoff_low_pending»;
+  resonance = r .resonance;
+  routing = r .routing;
+  mode = r .mode;
+  volume = r .volume;
+}
+
+abbrev pub coreOf : Handed → Core
+coreOf h = record { state = record { registers = registersOf (h .registers); integrator = h .integrator }; topology = h .topology; controls = h .controls }
+
+abbrev pub handedOf : Core → Handed
+handedOf k = record { registers = registeredOf (k .state .registers); integrator = k .state .integrator; topology = k .topology; controls = k .controls }
+
+-- an answer by its numbers, the outputs, and the core
+abbrev pub givenOf : Fed → Given
+givenOf f = record { number = numberOf (f .answer); buffer = bufferOf (f .answer); place = placeOf (f .answer); outputs = f .outputs; core = handedOf (f .core) }
+
+-- the event, and 7 where there is none
+abbrev pub fedAtOf : List ℕ → List ℕ → Core → Decoded → Fed
+fedAtOf bundle curves k (Readable e) = fedOf bundle curves k e
+fedAtOf bundle curves k Unreadable = record { answer = Script; outputs = noOutputs; core = k }
