@@ -1,6 +1,7 @@
 /* The SID filter: bytes in, bytes out. All numbers in the bytes are little-endian; an f32 is its bits.
  *
- * A buffer is a pointer and its length in bytes. Only `curves` is written, and no written buffer may overlap another one.
+ * A buffer is a pointer and its length in bytes. Building writes `curves`; a run writes `state` and `output` and only reads the others. No
+ * written buffer may overlap another one, and while a call runs nothing else may write what is lent to it.
  * Every call answers by value; none keeps a pointer. */
 #ifndef SID_FILTER_H
 #define SID_FILTER_H
@@ -48,9 +49,26 @@ enum {
     SID_FILTER_ARGUMENT = 10
 };
 
-/* The lengths in bytes of a bundle and of a curve buffer. */
+/* The lengths in bytes of a bundle, of a curve buffer, of a state block and of a script's header, event and sample; the most events. */
 #define SID_FILTER_BUNDLE_BYTES 6127736
 #define SID_FILTER_CURVES_BYTES 254076
+#define SID_FILTER_STATE_BYTES 24
+#define SID_FILTER_SCRIPT_HEADER_BYTES 8
+#define SID_FILTER_EVENT_BYTES 12
+#define SID_FILTER_SAMPLE_BYTES 16
+#define SID_FILTER_EVENTS_MAX 65536
+
+/* The kinds of an event. An event has a kind (byte 0), a value (byte 1), two zero bytes, an input sum (f32, byte 4) and a source energy
+ * (f32, byte 8). Kinds 0 to 3 use the value, which is what is written to the register; a sample uses the two floats; what a kind does not
+ * use is ignored. */
+enum {
+    SID_FILTER_CUTOFF_LOW = 0,  /* register 21 */
+    SID_FILTER_CUTOFF_HIGH = 1, /* register 22 */
+    SID_FILTER_ROUTING = 2,     /* register 23: resonance and routing */
+    SID_FILTER_MODE = 3,        /* register 24: mode and volume */
+    SID_FILTER_SAMPLE = 4,
+    SID_FILTER_RESET = 5
+};
 
 /* Opens a bundle: its length (1), its header (2), then every entry in order (3). */
 sid_filter_answer sid_filter_open(const uint8_t *bundle, size_t bundle_len);
@@ -58,6 +76,32 @@ sid_filter_answer sid_filter_open(const uint8_t *bundle, size_t bundle_len);
 /* Builds the 31 curves of a bundle: the bundle's length (1) and header (2), the buffer's length (4), then every entry of the analogue surface
  * in order (3). Where nothing is refused all 254,076 bytes are written, else none. */
 sid_filter_answer sid_filter_build_curves(const uint8_t *bundle, size_t bundle_len, uint8_t *curves, size_t curves_len);
+
+/* Runs a script from the state in `state`, and writes for each sample event, one after another from the start of `output`, high, band, low
+ * and selected (f32 each). A state of 24 zero bytes is the starting value. A script is a count of events and the offset 8 (u32 each), then
+ * the events.
+ *
+ * Refused, in this order:
+ *   1  the bundle's length
+ *   2  its header; place: the byte of the first difference
+ *   4  the curve buffer's length
+ *  10  the state block: not 24 bytes, a cutoff or write base above 2,047, a displacement outside -57 to 57, pending above 1, a nibble
+ *      above 15, the zero byte not zero, a float not finite
+ *   7  the script: a length other than 8 + 12 x count, a count above 65,536, another offset, a kind above 5 or a byte that must be zero
+ *   8  the output is shorter than 16 bytes a sample event
+ *   3  an entry that the controls read at the start is unusable: buffer and place
+ *   6  a control is not finite
+ * and then event by event
+ *   5  a sample's input sum or source energy is not finite
+ *   9  more than 7 mixer inputs; no routing and mode have so many
+ *   3  an entry that the event reads is unusable: buffer and place
+ *   6  a control, a number of the state or an output would not be finite
+ *
+ * Up to the start nothing is written and events and samples are 0. A run that stops at an event has written the samples before it and
+ * leaves the state before it; events and samples count what was done, and the rest of `output` stays. A script may be cut: each piece goes
+ * on from the state that the last one left. */
+sid_filter_answer sid_filter_run(const uint8_t *bundle, size_t bundle_len, const uint8_t *curves, size_t curves_len,
+    uint8_t *state, size_t state_len, const uint8_t *script, size_t script_len, uint8_t *output, size_t output_len);
 
 #ifdef __cplusplus
 }

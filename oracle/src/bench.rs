@@ -1,10 +1,11 @@
-//! The library's calls beside the Rust: opening a bundle beside a plain scan of the same bytes, and building the curves beside the Rust's
-//! calls. Each time is the best of 15; both sides are optimised builds, called by turns on the same bytes.
+//! The library's calls beside the Rust: opening a bundle beside a plain scan of the same bytes, building the curves beside the Rust's calls,
+//! and running scripts beside the Rust's filter doing the same events. Each time is the best of 15; both sides are optimised builds, called by turns on the same bytes.
 
 #![allow(dead_code)]
 
 include!("sid.rs");
 
+mod kept;
 mod numbers;
 mod surface;
 
@@ -12,6 +13,9 @@ use std::hint::black_box;
 use std::time::Instant;
 
 use constants::*;
+use filter::Filter;
+use kept::{filter_block, play};
+use numbers::Random;
 use response::volume_dac_conductance_code;
 use surface::proved;
 use tables::AnalogueTransferSurface;
@@ -55,6 +59,77 @@ fn load_curve(surface: &AnalogueTransferSurface, load: f32) -> Box<[f32; 2049]> 
     surface.build_load_curve(AnalogueTransferSurface::load_position(load))
 }
 
+// ---- runs
+
+/// A script of 65,536 events: samples, of which one in so many is a write of any register; 0 for none, 1 for writes only.
+fn script(every: usize, random: &mut Random) -> Vec<u8> {
+    let mut script = [65_536u32, 8].map(u32::to_le_bytes).concat();
+    for number in 0..65_536 {
+        let bits = random.bits();
+        if every != 0 && number % every == every - 1 {
+            script.extend([(bits % 4) as u8, (bits >> 8) as u8, 0, 0, 0, 0, 0, 0, 0, 0, 0, 0]);
+        } else {
+            let time = number as f32;
+            let noise = (bits >> 16) as u16 as f32 / 655_360.0;
+            let sum = 1.35 + 0.3 * (time * 0.013).sin() + 0.2 * (time * 0.0037).sin() + noise;
+            let energy = 0.5 + 0.4 * (time * 0.0011).cos();
+            script.extend([4, 0, 0, 0]);
+            script.extend([sum, energy].map(f32::to_le_bytes).as_flattened());
+        }
+    }
+    script
+}
+
+/// Three voices in the filter, low and band together, at full volume.
+fn start(filter: &mut Filter) {
+    filter.reset();
+    filter.write_cutoff_low(5);
+    filter.write_cutoff_high(0x60);
+    filter.write_signal_routing(0x87);
+    filter.write_mode_and_volume(0x3f);
+}
+
+/// The events on the Rust's filter, the samples written as a run writes them.
+#[inline(never)]
+fn play_all(filter: &mut Filter, script: &[u8], output: &mut [u8]) {
+    let mut rows = output.as_chunks_mut::<16>().0.iter_mut();
+    for event in script[8..].as_chunks().0 {
+        if let Some(sample) = play(filter, event) {
+            let row = rows.next().expect("room for every sample");
+            row.copy_from_slice(sample.map(f32::to_le_bytes).as_flattened());
+        }
+    }
+}
+
+fn runs(bundle: &[u8], curves: &[u8]) {
+    let (mut filter, mut random) = (Filter::new(), Random(7));
+    for (name, every) in [("samples only", 0), ("one write in 16", 16), ("writes only", 1)] {
+        let script = script(every, &mut random);
+        let samples = script[8..].chunks_exact(12).filter(|event| event[0] == 4).count();
+        let (mut ours, mut theirs) = (vec![0; 16 * samples], vec![0; 16 * samples]);
+        start(&mut filter);
+        let begin = filter_block(&mut filter);
+        let mut state = begin;
+        let answer = proved::run(bundle, curves, &mut state, &script, &mut ours);
+        play_all(&mut filter, &script, &mut theirs);
+        assert_eq!((answer.number, answer.events, answer.samples as usize), (0, 65_536, samples), "{name}");
+        assert!(ours == theirs && state == filter_block(&mut filter), "{name}: samples or state differ");
+        let [library, rust] = best([
+            &mut || {
+                state = begin;
+                _ = black_box(proved::run(black_box(bundle), black_box(curves), &mut state, black_box(&script), black_box(&mut ours)));
+            },
+            &mut || {
+                start(&mut filter);
+                play_all(&mut filter, black_box(&script), black_box(&mut theirs));
+            },
+        ]);
+        let each = 1_000.0 / 65_536.0;
+        let (ours, theirs) = (library * each, rust * each);
+        println!("run, {name}: {ours:.1} ns an event, the Rust's filter {theirs:.1} ns, Rust / library {:.2}", rust / library);
+    }
+}
+
 fn main() {
     let bundle = surface::data("bundle");
     let surface = surface::surface_of(&bundle);
@@ -84,4 +159,5 @@ fn main() {
     line("build_curves", build, "the same, each box dropped before the next", dropped);
     line("build_curves", build, "a plain scan of the surface, the calls and the volume's steps", checked);
     println!("build_curves, the check of the surface alone: {check:.1} us");
+    runs(&bundle, &curves);
 }

@@ -11,6 +11,8 @@ mod direct;
 mod events;
 mod kept;
 mod numbers;
+mod plain;
+mod run;
 mod sample;
 mod state;
 mod surface;
@@ -22,6 +24,7 @@ fn main() {
     subjects.extend(sample::compare());
     subjects.extend(direct::compare());
     subjects.extend(core::compare());
+    subjects.extend(run::compare());
     subjects.extend(events::compare());
     let mut differences = 0;
     for (name, tally) in &subjects {

@@ -6,6 +6,7 @@
 include!("sid.rs");
 
 mod kept;
+mod song;
 
 use constants::*;
 use filter::Filter;
@@ -55,6 +56,9 @@ fn main() {
     save("writes", writes(&mut filter));
     save("controls", controls(&mut filter));
     save("filter_sample", filter_samples(&mut filter));
+    for (name, bytes) in song::files(&mut filter) {
+        write_bytes(name, &bytes);
+    }
 
     sums();
 }
@@ -62,7 +66,10 @@ fn main() {
 // ---- Files
 
 fn write(name: &str, words: &[u32]) {
-    let bytes: Vec<u8> = words.iter().flat_map(|word| word.to_le_bytes()).collect();
+    write_bytes(name, &words.iter().flat_map(|word| word.to_le_bytes()).collect::<Vec<u8>>());
+}
+
+fn write_bytes(name: &str, bytes: &[u8]) {
     std::fs::write(format!("{name}.bin"), bytes).unwrap_or_else(|error| panic!("{name}.bin: {error}"));
 }
 

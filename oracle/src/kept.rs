@@ -55,3 +55,24 @@ pub fn step_cutoff(filter: &mut Filter, from: u16, to: u16) {
         filter.write_cutoff_high((code >> 3) as u8);
     }
 }
+
+/// One event on the Rust's filter, and what a sample gives.
+pub fn play(filter: &mut Filter, event: &[u8; 12]) -> Option<[f32; 4]> {
+    let [kind, value, _, _, s0, s1, s2, s3, e0, e1, e2, e3] = *event;
+    match kind {
+        0 => filter.write_cutoff_low(value),
+        1 => filter.write_cutoff_high(value),
+        2 => filter.write_signal_routing(value),
+        3 => filter.write_mode_and_volume(value),
+        4 => return Some(filter.sample(f32::from_le_bytes([s0, s1, s2, s3]), f32::from_le_bytes([e0, e1, e2, e3]))),
+        _ => filter.reset(),
+    }
+    None
+}
+
+/// The block of the state that the Rust's filter is in.
+pub fn filter_block(filter: &mut Filter) -> [u8; 24] {
+    let kept = filter.state();
+    let floats = [kept.band_state, kept.low_state, kept.filter_source_energy].map(f32::to_bits);
+    block(filter.registers(), floats)
+}

@@ -38,6 +38,18 @@ pub mod proved {
     unsafe extern "C" {
         fn sid_filter_open(bundle: *const u8, bundle_len: usize) -> Answer;
         fn sid_filter_build_curves(bundle: *const u8, bundle_len: usize, curves: *mut u8, curves_len: usize) -> Answer;
+        fn sid_filter_run(
+            bundle: *const u8,
+            bundle_len: usize,
+            curves: *const u8,
+            curves_len: usize,
+            state: *mut u8,
+            state_len: usize,
+            script: *const u8,
+            script_len: usize,
+            output: *mut u8,
+            output_len: usize,
+        ) -> Answer;
     }
 
     #[link(name = "probe", kind = "static")]
@@ -56,6 +68,13 @@ pub mod proved {
 
     pub fn build_curves(bundle: &[u8], curves: &mut [u8]) -> Answer {
         unsafe { sid_filter_build_curves(bundle.as_ptr(), bundle.len(), curves.as_mut_ptr(), curves.len()) }
+    }
+
+    pub fn run(bundle: &[u8], curves: &[u8], state: &mut [u8], script: &[u8], output: &mut [u8]) -> Answer {
+        let ((bundle, bundle_len), (curves, curves_len)) = ((bundle.as_ptr(), bundle.len()), (curves.as_ptr(), curves.len()));
+        let (state, state_len) = (state.as_mut_ptr(), state.len());
+        let ((script, script_len), (output, output_len)) = ((script.as_ptr(), script.len()), (output.as_mut_ptr(), output.len()));
+        unsafe { sid_filter_run(bundle, bundle_len, curves, curves_len, state, state_len, script, script_len, output, output_len) }
     }
 
     pub fn sample(bundle: &[u8], conductance: f32, input: f32) -> Value {

@@ -90,6 +90,16 @@ pub fn print_line(file: &[u8], records: &[u8], words: usize, agreed: usize) {
     print(b"\n");
 }
 
+// Prints the line of a file of pieces: its name, how many of them agree and how many it has.
+pub fn print_pieces(file: &[u8], pieces: usize, agreed: usize) {
+    print_title(file);
+    print(b" ");
+    print_number(agreed);
+    print(b" of ");
+    print_number(pieces);
+    print(b"\n");
+}
+
 pub fn print(text: &[u8]) {
     io::write_all(STDOUT_FILENO, text);
 }

@@ -1,6 +1,7 @@
 // Replays the oracle's answers (oracle/README.md) for the bundle, the curves built from it and the filter's core on both, and prints a
 // line for each file: its name, how many of its records agree, and how many it has.
 mod core;
+mod song;
 mod surface;
 
 // What a record asks for. Each kind has a file, and a function that says whether one of its records agrees.
@@ -56,6 +57,18 @@ fn replay_files(bundle: &[u8], curves: &[u8]) {
     replay_file(Kind::Curves, b"curves.bin", 2, bundle, curves);
     replay_file(Kind::Controls, b"controls.bin", 72, bundle, curves);
     replay_file(Kind::FilterSample, b"filter_sample.bin", 18, bundle, curves);
+    replay_song(b"song.bin", bundle, curves);
+    replay_song(b"song_cut.bin", bundle, curves);
+    replay_song(b"song_events.bin", bundle, curves);
+    replay_song(b"song_empty.bin", bundle, curves);
+}
+
+// Prints the line of one file of pieces.
+fn replay_song(file: &[u8], bundle: &[u8], curves: &[u8]) {
+    let mut room = replay::room();
+    let n = replay::load(file, &mut room);
+    let agreed = song::count_agreeing(&room[..n], bundle, curves);
+    replay::print_pieces(file, song::count(&room[..n]), agreed);
 }
 
 // The bundle alone takes 6 of the 8 MiB of stack.

@@ -1,0 +1,601 @@
+//! Runs through the C interface. Answers and every byte of state and output beside the plain machine of plain.rs; on the bundle as it is,
+//! what was done also beside the Rust's filter, which keeps its topology and controls from write to write; and every script whose output
+//! has room also in pieces. The room of state and output lies between bytes that must stay.
+
+use crate::filter::Filter;
+use crate::kept::{filter_block, play};
+use crate::numbers::{Random, Tally};
+use crate::plain::{check_script, decode, Machine, State, BUNDLE_LENGTH, CURVES_LENGTH};
+use crate::surface::proved::{self, Answer};
+use crate::surface::{curves_of, data};
+
+pub fn compare() -> Vec<(&'static str, Tally)> {
+    let mut beside = Beside::new();
+    let mut subjects = vec![
+        ("runs, random scripts", random_scripts(&mut beside)),
+        ("runs, all scripts of up to two events", small_scripts(&mut beside)),
+        ("runs, state blocks", blocks(&mut beside)),
+        ("runs, unreadable scripts", unreadable(&mut beside)),
+        ("runs, output lengths", outputs(&mut beside)),
+        ("runs, wrong lengths and headers", wrong_buffers(&mut beside)),
+        ("runs, damaged entries", damaged(&mut beside)),
+        ("runs, several flaws at once", flaws(&mut beside)),
+        ("runs, what is lent to be read and each number reached", beside.ended()),
+    ];
+    subjects.push(("runs, cut into pieces", beside.cut));
+    subjects.push(("runs, beside the Rust's filter", beside.kept));
+    println!("runs: {} with {} events and {} samples done", beside.runs, beside.events, beside.samples);
+    println!("runs by number: {}", (0..11).map(|number| format!("{number}: {}", beside.numbers[number])).collect::<Vec<_>>().join(", "));
+    subjects
+}
+
+// ---- one run
+
+/// Bytes on either side of a room that no run may touch.
+const MARGIN: usize = 32;
+
+fn pattern(length: usize) -> Vec<u8> {
+    (0..length).map(|place| (place * 37 + 11) as u8).collect()
+}
+
+/// A room with its margins, filled with a pattern.
+fn framed(room: &[u8]) -> Vec<u8> {
+    let mut frame = pattern(room.len() + 2 * MARGIN);
+    frame[MARGIN..MARGIN + room.len()].copy_from_slice(room);
+    frame
+}
+
+fn room(frame: &mut [u8]) -> &mut [u8] {
+    let end = frame.len() - MARGIN;
+    &mut frame[MARGIN..end]
+}
+
+/// What a run answers and leaves, margins and all.
+#[derive(PartialEq)]
+struct Left {
+    answer: Answer,
+    block: Vec<u8>,
+    output: Vec<u8>,
+}
+
+/// One run on a block and on an output of a length.
+fn left(block: &[u8], length: usize, run: impl FnOnce(&mut [u8], &mut [u8]) -> Answer) -> Left {
+    let (mut block, mut output) = (framed(block), pattern(length + 2 * MARGIN));
+    let answer = run(room(&mut block), room(&mut output));
+    Left { answer, block, output }
+}
+
+fn events_of(script: &[u8]) -> &[[u8; 12]] {
+    script[8..].as_chunks().0
+}
+
+fn samples_of(events: &[[u8; 12]]) -> usize {
+    events.iter().filter(|event| event[0] == 4).count()
+}
+
+fn script_of(events: &[[u8; 12]]) -> Vec<u8> {
+    let header = [events.len() as u32, 8].map(u32::to_le_bytes);
+    [header.as_flattened(), events.as_flattened()].concat()
+}
+
+/// The bytes that are lent, as they are, and the counts of all runs.
+struct Beside {
+    bundle: Vec<u8>,
+    curves: Vec<u8>,
+    filter: Filter,
+    random: Random,
+    cut: Tally,
+    kept: Tally,
+    runs: u64,
+    events: u64,
+    samples: u64,
+    numbers: [u64; 11],
+}
+
+impl Beside {
+    fn new() -> Self {
+        let filter = Filter::new();
+        Beside {
+            bundle: data("bundle"),
+            curves: curves_of(&filter),
+            filter,
+            random: Random(40),
+            cut: Tally::default(),
+            kept: Tally::default(),
+            runs: 0,
+            events: 0,
+            samples: 0,
+            numbers: [0; 11],
+        }
+    }
+
+    /// One run on both sides, and where the script is readable and the output has room also in pieces; what the proved one left.
+    fn run(&mut self, tally: &mut Tally, lent: [&[u8]; 2], block: &[u8], script: &[u8], length: usize) -> Left {
+        let ours = left(block, length, |state, output| proved::run(lent[0], lent[1], state, script, output));
+        let theirs = left(block, length, |state, output| Machine::new(lent[0], lent[1]).run(state, script, output));
+        tally.same(ours.answer, theirs.answer);
+        tally.same(&ours.block, &theirs.block);
+        tally.same(&ours.output, &theirs.output);
+        self.runs += 1;
+        self.events += u64::from(ours.answer.events);
+        self.samples += u64::from(ours.answer.samples);
+        self.numbers[(ours.answer.number as usize).min(10)] += 1;
+        if check_script(script).is_ok() && length >= 16 * samples_of(events_of(script)) {
+            let cuts = any_cuts(&mut self.random, events_of(script).len());
+            self.cut(lent, block, events_of(script), &cuts, &ours);
+        }
+        ours
+    }
+
+    /// A run on the bundle and the curves as they are.
+    fn whole(&mut self, tally: &mut Tally, block: &[u8], script: &[u8], length: usize) -> Left {
+        let (bundle, curves) = (std::mem::take(&mut self.bundle), std::mem::take(&mut self.curves));
+        let ours = self.run(tally, [&bundle, &curves], block, script, length);
+        (self.bundle, self.curves) = (bundle, curves);
+        ours
+    }
+
+    /// A readable script from a valid block with room for its samples and some bytes more, then beside the Rust's filter.
+    fn readable(&mut self, tally: &mut Tally, block: &[u8], events: &[[u8; 12]]) {
+        let ours = self.whole(tally, block, &script_of(events), 16 * samples_of(events) + (self.runs % 24) as usize);
+        self.beside_filter(block, events, &ours);
+    }
+
+    /// Pieces between the cuts, each a script of its own that goes on from the block the last one left; none after a stop. They end where
+    /// the uncut run does.
+    fn cut(&mut self, [bundle, curves]: [&[u8]; 2], block: &[u8], events: &[[u8; 12]], cuts: &[usize], uncut: &Left) {
+        let (mut block, mut written, mut done, mut samples) = (framed(block), vec![], 0, 0);
+        let (mut from, mut last) = (0, uncut.answer);
+        for end in cuts.iter().copied().chain([events.len()]) {
+            let piece = &events[from..end];
+            let output = &mut pattern(16 * samples_of(piece));
+            last = proved::run(bundle, curves, room(&mut block), &script_of(piece), output);
+            written.extend(output.iter().take(16 * last.samples as usize));
+            (done, samples) = (done + last.events, samples + last.samples);
+            if last.number != 0 {
+                break;
+            }
+            from = end;
+        }
+        self.cut.same(Answer { events: done, samples, ..last }, uncut.answer);
+        self.cut.same(&block, &uncut.block);
+        self.cut.same(Some(&written[..]), uncut.output.get(MARGIN..MARGIN + 16 * uncut.answer.samples as usize));
+    }
+
+    /// The Rust's filter in the block's state: the events that were done, and that a 6 is where its numbers are no longer finite.
+    fn beside_filter(&mut self, before: &[u8], events: &[[u8; 12]], ours: &Left) {
+        let Ok(State { registers, floats }) = decode(before) else { return };
+        let filter = &mut self.filter;
+        let routing = registers.resonance << 4 | registers.routing;
+        *filter.registers() = registers;
+        filter.write_signal_routing(routing);
+        let kept = filter.state();
+        [kept.band_state, kept.low_state, kept.filter_source_energy] = floats;
+        let done = ours.answer.events as usize;
+        let mut rows = ours.output[MARGIN..].chunks_exact(16);
+        for event in events.iter().take(done) {
+            if let Some(sample) = play(filter, event) {
+                self.kept.same(rows.next(), Some(sample.map(f32::to_le_bytes).as_flattened()));
+            }
+        }
+        self.kept.same(&ours.block[MARGIN..MARGIN + 24], &filter_block(filter)[..]);
+        if ours.answer.number == 6 {
+            let outputs = events.get(done).and_then(|event| play(filter, event)).unwrap_or_default();
+            let kept = filter.state();
+            let finite = [kept.band_state, kept.low_state, kept.filter_source_energy].iter().chain(&outputs).all(|x| x.is_finite());
+            self.kept.same(finite, false);
+        }
+    }
+
+    /// Bundle and curves are as they were, and every number but 9 was reached: no topology has more than 7 mixer inputs.
+    fn ended(&self) -> Tally {
+        let mut tally = Tally::default();
+        tally.same(&self.bundle, &data("bundle"));
+        tally.same(&self.curves, &curves_of(&self.filter));
+        for (number, &count) in self.numbers.iter().enumerate() {
+            tally.same(count > 0, number != 9);
+        }
+        tally
+    }
+}
+
+// ---- inputs
+
+fn between(random: &mut Random, low: f32, high: f32) -> f32 {
+    low + (high - low) * ((random.bits() >> 40) as f32 / 16_777_216.0)
+}
+
+fn finite(random: &mut Random) -> f32 {
+    let x = random.float();
+    if x.is_finite() {
+        x
+    } else {
+        f32::MAX
+    }
+}
+
+/// Any valid block; the floats of the filter's size, zeros of either sign, near the saturation's overflow, or any finite ones.
+fn any_block(random: &mut Random) -> [u8; 24] {
+    let bits = random.bits();
+    let mut bytes = [0; 24];
+    let code = |bits: u64| [0, 2047, bits as u16 % 2048, bits as u16 % 2048][(bits >> 12) as usize % 4];
+    bytes[0..2].copy_from_slice(&code(bits).to_le_bytes());
+    bytes[2..4].copy_from_slice(&(((bits >> 14) % 115) as i16 - 57).to_le_bytes());
+    bytes[4..6].copy_from_slice(&code(bits >> 24).to_le_bytes());
+    bytes[6] = (bits >> 40) as u8 % 2;
+    for (nibble, shift) in bytes[7..11].iter_mut().zip([44, 48, 52, 56]) {
+        *nibble = (bits >> shift) as u8 % 16;
+    }
+    let zero = |bit: u64| if bits >> bit & 1 == 0 { 0.0 } else { -0.0 };
+    let floats = match bits >> 61 {
+        0 => [zero(0), zero(1), zero(2)],
+        1 => [finite(random), finite(random), finite(random)],
+        2 => [between(random, -8.0e12, 8.0e12), between(random, -8.0e12, 8.0e12), between(random, 0.0, 1.0)],
+        _ => [between(random, -1.5, 1.5), between(random, -1.5, 1.5), between(random, 0.0, 1.0)],
+    };
+    bytes[12..].copy_from_slice(floats.map(f32::to_le_bytes).as_flattened());
+    bytes
+}
+
+/// A random event. What its kind does not use is any bytes. Wild floats are any, and now and then not finite.
+fn any_event(random: &mut Random, wild: bool) -> [u8; 12] {
+    let bits = random.bits();
+    let kind = match bits % 64 {
+        0..=5 => 0,
+        6..=11 => 1,
+        12..=15 => 2,
+        16..=19 => 3,
+        20 if bits >> 61 == 0 => 5,
+        _ => 4,
+    };
+    let floats = match (kind, wild) {
+        (4, false) => [between(random, 0.0, 4.0), between(random, 0.0, 2.0)],
+        (4, true) => [random.float(), random.float()],
+        _ => [f32::from_bits(random.bits() as u32), f32::from_bits(random.bits() as u32)],
+    };
+    event(kind, (bits >> 8) as u8, floats)
+}
+
+fn event(kind: u8, value: u8, [sum, energy]: [f32; 2]) -> [u8; 12] {
+    let mut event = [kind, value, 0, 0, 0, 0, 0, 0, 0, 0, 0, 0];
+    event[4..8].copy_from_slice(&sum.to_le_bytes());
+    event[8..].copy_from_slice(&energy.to_le_bytes());
+    event
+}
+
+/// Where a script is cut: nowhere, at some places, or, if it is short, before and after every event. Some places are the same, so pieces are
+/// empty.
+fn any_cuts(random: &mut Random, events: usize) -> Vec<usize> {
+    let bits = random.bits();
+    if bits % 8 == 0 && events <= 2_000 || events <= 2 {
+        return (0..=events).collect();
+    }
+    let mut cuts: Vec<usize> = (0..(bits >> 8) % 8).map(|_| random.bits() as usize % (events + 1)).collect();
+    if bits % 8 == 1 {
+        cuts.extend_from_within(..);
+        cuts.extend([0, events]);
+    }
+    cuts.sort();
+    cuts
+}
+
+// ---- readable scripts
+
+/// Every length up to 128 many times, some up to 4,096, few up to 65,536, and that length itself; every third script is wild, every third
+/// wild only now and then.
+fn random_scripts(beside: &mut Beside) -> Tally {
+    let mut tally = Tally::default();
+    let short = (0..77_400).map(|turn| turn % 129);
+    let longer = (0..2_400).map(|turn| 128 + turn * 7919 % 3_969);
+    let long = (0..72).map(|turn| 4_096 + turn * 15_486_001 % 61_440).chain([65_535, 65_536, 65_536, 65_536]);
+    for (turn, length) in short.chain(longer).chain(long).enumerate() {
+        let mut random = Random(beside.random.bits());
+        let block = any_block(&mut random);
+        let events: Vec<[u8; 12]> = (0..length)
+            .map(|_| {
+                let wild = match turn % 3 {
+                    0 => false,
+                    1 => random.bits() % 2_048 == 0,
+                    _ => true,
+                };
+                any_event(&mut random, wild)
+            })
+            .collect();
+        beside.readable(&mut tally, &block, &events);
+    }
+    tally
+}
+
+/// The letters of which every script of none, one and two is run.
+fn letters() -> Vec<[u8; 12]> {
+    const SUMS: [f32; 8] = [0.0, -0.0, 1.5, -3.0, 1.0e30, f32::MAX, f32::INFINITY, f32::NAN];
+    const ENERGIES: [f32; 7] = [0.0, -0.0, 0.5, -0.005, 3.0e38, f32::NEG_INFINITY, f32::NAN];
+    let writes: [(u8, &[u8]); 5] = [
+        (0, &[0, 3, 7, 255]),
+        (1, &[0, 1, 8, 127, 255]),
+        (2, &[0x00, 0x03, 0x0f, 0x85, 0xf1, 0xf8]),
+        (3, &[0x00, 0x0f, 0x1f, 0x28, 0x4f, 0x7f, 0x98, 0xff]),
+        (5, &[0, 255]),
+    ];
+    let mut letters = vec![];
+    for (kind, values) in writes {
+        letters.extend(values.iter().map(|&value| event(kind, value, [f32::NAN, 0.0])));
+    }
+    for sum in SUMS {
+        letters.extend(ENERGIES.map(|energy| event(4, 0, [sum, energy])));
+    }
+    letters
+}
+
+/// The states they start from: the starting value, and others about the ends of what a block holds.
+fn starts() -> Vec<[u8; 24]> {
+    let mut starts = vec![[0; 24]];
+    let registers: [(u16, i16, u16, [u8; 5]); 5] = [
+        (2047, 57, 0, [1, 15, 15, 7, 15]),
+        (0, -57, 2047, [0, 0, 1, 1, 0]),
+        (1023, -57, 8, [1, 8, 0, 2, 9]),
+        (2047, 0, 2047, [0, 0, 3, 4, 1]),
+        (8, 13, 0, [1, 7, 12, 8, 7]),
+    ];
+    let floats = [[-0.0, 0.0, -0.0], [0.5, -0.25, 0.1], [8.0e12, -8.0e12, 1.0], [f32::MAX, f32::MIN, f32::MAX], [0.0, 0.0, -0.005]];
+    for (cutoff, displacement, base, bytes) in registers {
+        for floats in floats {
+            let mut start = [0; 24];
+            start[0..2].copy_from_slice(&cutoff.to_le_bytes());
+            start[2..4].copy_from_slice(&displacement.to_le_bytes());
+            start[4..6].copy_from_slice(&base.to_le_bytes());
+            start[6..11].copy_from_slice(&bytes);
+            start[12..].copy_from_slice(floats.map(f32::to_le_bytes).as_flattened());
+            starts.push(start);
+        }
+    }
+    starts
+}
+
+fn small_scripts(beside: &mut Beside) -> Tally {
+    let (mut tally, letters) = (Tally::default(), letters());
+    for block in starts() {
+        beside.readable(&mut tally, &block, &[]);
+        for &first in &letters {
+            beside.readable(&mut tally, &block, &[first]);
+            for &second in &letters {
+                beside.readable(&mut tally, &block, &[first, second]);
+            }
+        }
+    }
+    tally
+}
+
+// ---- what is refused before the start
+
+fn short_script(random: &mut Random) -> Vec<[u8; 12]> {
+    (0..random.bits() % 12).map(|_| any_event(random, false)).collect()
+}
+
+/// Every byte of a block with every value, every length about 24, and floats that are not finite.
+fn blocks(beside: &mut Beside) -> Tally {
+    let (mut tally, mut random) = (Tally::default(), Random(41));
+    for start in [[0; 24], any_block(&mut random), any_block(&mut random)] {
+        let events = short_script(&mut random);
+        let (script, length) = (script_of(&events), 16 * samples_of(&events));
+        for place in 0..24 {
+            for value in 0..=255 {
+                let mut block = start;
+                block[place] = value;
+                beside.whole(&mut tally, &block, &script, length);
+            }
+        }
+        for place in [0, 2, 4] {
+            for value in [2047, 2048, 57, 58, 65_479, 65_478, 32_767, 32_768, 65_535u16] {
+                let mut block = start;
+                block[place..place + 2].copy_from_slice(&value.to_le_bytes());
+                beside.whole(&mut tally, &block, &script, length);
+            }
+        }
+        for place in [12, 16, 20] {
+            for bits in [0x7f80_0000, 0xff80_0000, 0x7f80_0001, 0x7fc0_0000, 0xffff_ffff, 0x7f7f_ffff, 0xff7f_ffff, 1, 0x8000_0000u32] {
+                let mut block = start;
+                block[place..place + 4].copy_from_slice(&bits.to_le_bytes());
+                beside.whole(&mut tally, &block, &script, length);
+            }
+        }
+        for size in 0..=49 {
+            let block: Vec<u8> = start.iter().copied().cycle().take(size).collect();
+            beside.whole(&mut tally, &block, &script, length);
+        }
+    }
+    tally
+}
+
+/// Every byte of the header and of some events with every value, every shorter length and some longer ones, and counts whose length
+/// overflows. Another value of a byte that a script may have so is readable.
+fn unreadable(beside: &mut Beside) -> Tally {
+    let (mut tally, mut random) = (Tally::default(), Random(42));
+    for count in [0, 1, 4] {
+        let block = any_block(&mut random);
+        let script = script_of(&(0..count).map(|_| any_event(&mut random, false)).collect::<Vec<_>>());
+        for place in 0..script.len() {
+            for value in 0..=255 {
+                let mut script = script.clone();
+                script[place] = value;
+                beside.whole(&mut tally, &block, &script, 16 * count);
+            }
+        }
+        for length in 0..script.len() + 40 {
+            let script: Vec<u8> = script.iter().copied().chain(pattern(40)).take(length).collect();
+            beside.whole(&mut tally, &block, &script, 16 * count);
+        }
+        for claimed in [65_536, 65_537, 0x1555_5555, 0x1555_5556, 0x2aaa_aaab, 0x8000_0000, 0xffff_ffff, 0x0001_0000u32 + count as u32] {
+            let mut script = script.clone();
+            script[..4].copy_from_slice(&claimed.to_le_bytes());
+            for length in [script.len(), 16, 8 + (12u32.wrapping_mul(claimed) as usize).min(1 << 20)] {
+                script.resize(length, 0);
+                beside.whole(&mut tally, &block, &script, 16 * count);
+            }
+        }
+    }
+    // One event too many, and the most with the last one unreadable.
+    let mut events = vec![event(4, 0, [0.5, 0.5]); 65_537];
+    beside.whole(&mut tally, &[0; 24], &script_of(&events), 16 * 65_537);
+    events.pop();
+    for (place, value) in [(0, 6), (2, 1), (3, 128), (0, 255)] {
+        let byte = std::mem::replace(&mut events[65_535][place], value);
+        beside.whole(&mut tally, &[0; 24], &script_of(&events), 16 * 65_536);
+        events[65_535][place] = byte;
+    }
+    tally
+}
+
+/// Every output length about what short scripts need, and the longest script's to the byte.
+fn outputs(beside: &mut Beside) -> Tally {
+    let (mut tally, mut random) = (Tally::default(), Random(43));
+    for _ in 0..200 {
+        let block = any_block(&mut random);
+        let events = short_script(&mut random);
+        for length in 0..16 * samples_of(&events) + 20 {
+            beside.whole(&mut tally, &block, &script_of(&events), length);
+        }
+    }
+    let script = script_of(&vec![event(4, 0, [0.5, 0.5]); 65_536]);
+    for length in [0, 16 * 65_535, 16 * 65_536 - 1, 16 * 65_536, 16 * 65_536 + 1] {
+        beside.whole(&mut tally, &any_block(&mut random), &script, length);
+    }
+    tally
+}
+
+/// Every value of every header byte of the bundle, alone and with another one wrong, and wrong lengths of bundle and curves, with all else
+/// right and with other flaws.
+fn wrong_buffers(beside: &mut Beside) -> Tally {
+    let (mut tally, mut random) = (Tally::default(), Random(44));
+    let (mut bundle, mut curves) = (beside.bundle.clone(), beside.curves.clone());
+    let mut both = |bundle: &[u8], curves: &[u8]| {
+        let (mut block, events, bits) = (any_block(&mut random), short_script(&mut random), random.bits());
+        let mut script = script_of(&events);
+        block[11] = u8::from(bits % 4 == 0);
+        script[4] += u8::from(bits >> 2 & 3 == 0);
+        let a_sample = if bits >> 4 & 1 == 0 { 16 } else { 15 };
+        beside.run(&mut tally, [bundle, curves], &block, &script, a_sample * samples_of(&events));
+    };
+    for place in 0..56 {
+        let byte = bundle[place];
+        for value in 0..=255 {
+            bundle[place] = value;
+            both(&bundle, &curves[..CURVES_LENGTH - usize::from(value % 2)]);
+            bundle[55 - place] ^= 1;
+            both(&bundle, &curves);
+            bundle[55 - place] ^= 1;
+        }
+        bundle[place] = byte;
+    }
+    bundle.extend([0; 9]);
+    curves.extend([0; 9]);
+    for bundle_length in [0, 1, 8, 55, 56, 57, 6_127_732, 6_127_735, BUNDLE_LENGTH, 6_127_737, 6_127_740, 6_127_745] {
+        for curves_length in [0, 1, 4, 8_196, 254_072, 254_075, CURVES_LENGTH, 254_077, 254_080, 254_085] {
+            both(&bundle[..bundle_length], &curves[..curves_length]);
+        }
+    }
+    tally
+}
+
+// ---- entries
+
+/// Four that stay usable, and what does not.
+const DAMAGES: [u32; 12] = [
+    0x4480_0000, // 1,024
+    0xc480_0000,
+    0x8000_0000,
+    0x0000_0001,
+    0x4480_0001, // just above 1,024
+    0xc480_0001,
+    0x7f80_0000, // the infinities
+    0xff80_0000,
+    0x7f80_0001, // NaNs
+    0x7fc0_0000,
+    0xffff_ffff,
+    0x7f7f_ffff, // the largest float
+];
+
+/// Entries set to other bits, and what they were.
+struct Damage(Vec<(u32, usize, [u8; 4])>);
+
+impl Damage {
+    /// One to three of the places that a run reads.
+    fn done(random: &mut Random, read: &[(u32, usize)], bundle: &mut [u8], curves: &mut [u8]) -> Self {
+        let mut whole = vec![];
+        for _ in 0..1 + random.bits() % 3 {
+            let (buffer, place) = read[random.bits() as usize % read.len()];
+            let entry = entry_of(buffer, place, bundle, curves);
+            whole.push((buffer, place, *entry));
+            *entry = DAMAGES[random.bits() as usize % 12].to_le_bytes();
+        }
+        Damage(whole)
+    }
+
+    fn undone(self, bundle: &mut [u8], curves: &mut [u8]) {
+        for (buffer, place, whole) in self.0.into_iter().rev() {
+            *entry_of(buffer, place, bundle, curves) = whole;
+        }
+    }
+}
+
+fn entry_of<'a>(buffer: u32, place: usize, bundle: &'a mut [u8], curves: &'a mut [u8]) -> &'a mut [u8; 4] {
+    let bytes = if buffer == 0 { bundle } else { curves };
+    (&mut bytes[place..place + 4]).try_into().unwrap()
+}
+
+/// Every place that a run reads, in order.
+fn places(bundle: &[u8], curves: &[u8], block: &[u8], events: &[[u8; 12]]) -> Vec<(u32, usize)> {
+    let mut machine = Machine::new(bundle, curves);
+    machine.read = Some(vec![]);
+    machine.run(&mut block.to_vec(), &script_of(events), &mut vec![0; 16 * events.len()]);
+    machine.read.unwrap_or_default()
+}
+
+/// Scripts with one to three of the entries damaged that they read: at the start, in a write, in a sample, or first after a reset.
+fn damaged(beside: &mut Beside) -> Tally {
+    let (mut tally, mut random) = (Tally::default(), Random(45));
+    let (mut bundle, mut curves) = (beside.bundle.clone(), beside.curves.clone());
+    for _ in 0..60_000 {
+        let block = any_block(&mut random);
+        let events: Vec<[u8; 12]> = (0..1 + random.bits() % 24).map(|_| any_event(&mut random, false)).collect();
+        let read = places(&bundle, &curves, &block, &events);
+        let damage = Damage::done(&mut random, &read, &mut bundle, &mut curves);
+        beside.run(&mut tally, [&bundle, &curves], &block, &script_of(&events), 16 * samples_of(&events));
+        damage.undone(&mut bundle, &mut curves);
+    }
+    tally.same(bundle == beside.bundle, true);
+    tally.same(curves == beside.curves, true);
+    tally
+}
+
+/// Any of the flaws together, so that the order of judgement decides.
+fn flaws(beside: &mut Beside) -> Tally {
+    let (mut tally, mut random) = (Tally::default(), Random(46));
+    let (mut bundle, mut curves) = (beside.bundle.clone(), beside.curves.clone());
+    for _ in 0..60_000 {
+        let mut block = any_block(&mut random).to_vec();
+        let wild = random.bits() % 2 == 0;
+        let events: Vec<[u8; 12]> = (0..random.bits() % 12).map(|_| any_event(&mut random, wild)).collect();
+        let read = places(&bundle, &curves, &block, &events);
+        let damage = Damage::done(&mut random, &read, &mut bundle, &mut curves);
+        let bits = random.bits();
+        let has = |flaw: u32| bits >> (2 * flaw) & 3 == 0;
+        let header = if has(0) { (bits >> 32) as usize % 56 } else { 56 };
+        bundle[header] ^= 1;
+        let mut script = script_of(&events);
+        let at = (bits >> 40) as usize % script.len();
+        if has(1) {
+            script[at] ^= 1 << (bits >> 20 & 7);
+        }
+        if has(2) {
+            block[(bits >> 48) as usize % 24] ^= 1 << (bits >> 24 & 7);
+        }
+        let bundle_length = BUNDLE_LENGTH - usize::from(has(3));
+        let curves_length = CURVES_LENGTH - usize::from(has(4));
+        let length = (16 * samples_of(&events)).saturating_sub(usize::from(has(5)));
+        beside.run(&mut tally, [&bundle[..bundle_length], &curves[..curves_length]], &block, &script, length);
+        bundle[header] ^= 1;
+        damage.undone(&mut bundle, &mut curves);
+    }
+    tally
+}
