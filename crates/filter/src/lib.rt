@@ -179,7 +179,7 @@ impl Core {
     }
 
     // The next core of a state and a topology, with every control worked out afresh. Refuses 3, 6.
-    pub fn refreshed(self, bundle: &[u8], state: State, topology: MixingTopology) -> Written
+    fn refreshed(self, bundle: &[u8], state: State, topology: MixingTopology) -> Written
         ensures { λ r. ⌜ r ≡ F.refreshedOf (now (bundle .entry)) self state topology ⌝ }
     {
         let fresh = controls::refresh(bundle, state);
@@ -197,7 +197,7 @@ impl Core {
     }
 
     // The same with the filter's controls as they are: mode and volume have no part in them. Refuses 3, 6.
-    pub fn reselected(self, bundle: &[u8], state: State, topology: MixingTopology) -> Written
+    fn reselected(self, bundle: &[u8], state: State, topology: MixingTopology) -> Written
         ensures { λ r. ⌜ r ≡ F.reselectedOf (now (bundle .entry)) self state topology ⌝ }
     {
         let registers = state.registers;

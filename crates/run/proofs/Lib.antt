@@ -1,5 +1,6 @@
 pub mod Bytes
 pub mod Rows
 pub mod Cutting
+pub mod Changes
 pub mod Loop
 pub mod Whole

@@ -13,14 +13,23 @@ use lib.ListN.{length, drop, length-append}
 use Rattle.answers.specs.declared.Answer.{Answer}
 use Rattle.answers.specs.declared.Answer.the-variants.{Done, InputNotFinite, MixerInputs}
 use Rattle.answers.specs.Answers.{firstOf, unlessOf, isDoneOf}
-use Rattle.answers.proofs.Laws.{done-is}
+use Rattle.answers.proofs.Laws.{done-is, first-done}
 use Rattle.wire.specs.Wire.{putAt}
 use Rattle.wire.proofs.Laws.{both, length-putAt, putAt-nil, putAt-join}
 use Rattle.integrator.specs.declared.IntegratorState.{IntegratorState}
 use Rattle.control.specs.declared.State.{State}
-use Rattle.control.specs.Registers.{startingState, writeCutoffLowOf, writeCutoffHighOf, writeSignalRoutingOf, writeModeAndVolumeOf}
-use Rattle.controls.specs.Controls.{controlsOf}
-use Rattle.controls.specs.Judging.{judgeControlsOf}
+use Rattle.control.specs.Registers.{effectiveCutoffOf, startingState, writeCutoffLowOf, writeCutoffHighOf, writeSignalRoutingOf, writeModeAndVolumeOf}
+use Rattle.control.proofs.Valid.{Ranges, valid-ranges}
+use Rattle.controls.specs.declared.ControlCache.{ControlCache}
+use Rattle.controls.specs.Controls.{modeGainOf, filterControlsOf, controlsOf}
+use Rattle.controls.specs.Kept.{judgeGainOf}
+use Rattle.controls.proofs.Parts.{judged-by-parts}
+use Rattle.bundle.specs.Reading.{readOf}
+use Rattle.mixing.specs.declared.MixingTopology.{MixingTopology}
+use Rattle.sample.specs.Kept.{restOf}
+use Rattle.sample.proofs.Kept.{kept-is-sample}
+use lib.Ieee.{Float}
+use Rattle.controls.specs.Judging.{judgeFilterOf, judgeControlsOf}
 use Rattle.sample.specs.declared.Outputs.{Outputs}
 use Rattle.sample.specs.declared.Sampled.{Sampled}
 use Rattle.sample.specs.declared.Sampled.the-variants.{Taken, Refused}
@@ -38,12 +47,17 @@ use Rattle.filter.specs.Core.{freshTopologyOf, coreOf, withIntegrator, judgeLen
 use Rattle.filter.specs.declared.Fed.{Fed}
 use Rattle.filter.specs.Lists.{shown, Fresh}
 use Rattle.filter.specs.Plain.{Plain, refusedAt, plainChange, plainTaken, plainSample, plainStep}
-use Rattle.filter.proofs.Demand3.{Kept, steps, refuses, sample-refuses, sample-plain}
+use Rattle.filter.proofs.Demand3.{refuses, sample-refuses, sample-plain}
 use Rattle.run.specs.declared.Row.{Row}
 use Rattle.run.specs.declared.Played.{Played}
 use Rattle.run.specs.Run.{Ran, stopped, went, playOf, sampleBytes}
-use Rattle.run.specs.Rows.{Samples, askedOf, noSamples, oneMore, rowOn, rowOf, rowEnd, playEnd, resumedOf}
+use Rattle.run.specs.Rows.{Samples, askedOf, noSamples, oneMore, rowOn, rowOf, rowEnd, playEnd}
 use Rattle.run.proofs.Bytes.{length-outputs, outputs-append}
+use Rattle.run.specs.declared.Asked.{Asked}
+use Rattle.run.specs.declared.Parts.{Parts}
+use Rattle.run.specs.declared.Changed.{Changed}
+use Rattle.run.specs.Parts.{gainValue, stateGain, partsOf, changeOf, cacheOfParts}
+use Rattle.run.proofs.Changes.{Stepped, change-steps}
 use Rattle.run.proofs.Cutting.{Good, good-step}
 
 -- ---- the events left
@@ -233,6 +247,40 @@ played-few bundle curves s (e ∷ es) = go (isDoneOf (plainStep bundle curves s 
         omega arith
     go false h = omega arith
 
+-- ---- samples on the parts that are kept
+
+row-same-samples : (bundle curves : List ℕ) (t : MixingTopology) (c d : ControlCache) (mode : ℕ)
+    → ((j : IntegratorState) (sum energy : Float) → sampleOf bundle curves t c mode j sum energy ≡ sampleOf bundle curves t d mode j sum energy)
+    → (i : IntegratorState) (es : List Event) → rowOf bundle curves t c mode i es ≡ rowOf bundle curves t d mode i es
+unfolding rowOf
+row-same-samples bundle curves t c d mode same i [] = refl
+row-same-samples bundle curves t c d mode same i (e ∷ es) =
+    let x = askedOf e .«input_sum» in
+    let y = askedOf e .«source_energy» in
+    ap (λ (z : Sampled). cond (askedOf e .sample) (rowOn (λ j. rowOf bundle curves t c mode j es) i z) (noSamples Done i)) (same i x y)
+    ∙ ap (λ (z : Samples). cond (askedOf e .sample) z (noSamples Done i)) (on (sampleOf bundle curves t d mode i x y) (λ j. row-same-samples bundle curves t c d mode same j es))
+  where
+    on : (z : Sampled) → ((j : IntegratorState) → rowOf bundle curves t c mode j es ≡ rowOf bundle curves t d mode j es)
+        → rowOn (λ j. rowOf bundle curves t c mode j es) i z ≡ rowOn (λ j. rowOf bundle curves t d mode j es) i z
+    on (Taken o j) later = ap (oneMore o) (later j)
+    on (Refused answer) later = refl
+
+gain-good : (bundle curves : List ℕ) (s : State) → Good bundle curves s → gainValue (stateGain bundle s) ≡ modeGainOf bundle (s .registers) (effectiveCutoffOf s)
+unfolding readOf
+gain-good bundle curves s good =
+    let r = valid-ranges s (good .valid) .resonance in
+    let f = judgeFilterOf bundle (effectiveCutoffOf s) (s .registers .resonance) in
+    let g = judgeGainOf bundle (s .registers) (effectiveCutoffOf s) in
+    let judged : g ≡ Done = first-done f g (sym (judged-by-parts bundle s (omega arith)) ∙ good .judged) .1 in
+    rw judged refl
+
+parts-sample : (bundle curves : List ℕ) (s : State) → Good bundle curves s → (j : IntegratorState) (sum energy : Float)
+    → sampleOf bundle curves (freshTopologyOf s) (cacheOfParts (partsOf bundle s)) (s .registers .mode) j sum energy ≡ sampleOf bundle curves (freshTopologyOf s) (controlsOf bundle s) (s .registers .mode) j sum energy
+unfolding partsOf controlsOf filterControlsOf
+parts-sample bundle curves s good j sum energy =
+    sym (kept-is-sample bundle curves (freshTopologyOf s) (cacheOfParts (partsOf bundle s)) (s .registers .mode) j sum energy)
+    ∙ rw (gain-good bundle curves s good) (kept-is-sample bundle curves (freshTopologyOf s) (controlsOf bundle s) (s .registers .mode) j sum energy)
+
 -- ---- the loop
 
 module _ (bundle curves script : List ℕ) (count : ℕ) (s₀ : State) (out₀ : List ℕ) where
@@ -376,16 +424,26 @@ module _ (bundle curves script : List ℕ) (count : ℕ) (s₀ : State) (out₀ 
 
   -- ---- as the code has it
 
-  module _ (lent : judgeLentOf bundle curves ≡ Done) (out : List ℕ) (k : Core) (samples i : ℕ) (fresh : Fresh bundle k) (far : Sofar out (k .state) samples i) where
+  -- what is kept stays while only the integrator moves
+  parts-stay : (s : State) (j : IntegratorState) → partsOf bundle (withIntegrator s j) ≡ partsOf bundle s
+  unfolding partsOf
+  parts-stay s j = refl
+
+  module _ (lent : judgeLentOf bundle curves ≡ Done) (out : List ℕ) (s : State) (samples i : ℕ) (far : Sofar out s samples i) {k : Parts} (is : k ≡ partsOf bundle s) where
     abbrev keptRow : Samples
-    keptRow = rowOf bundle curves (k .topology) (k .controls) (k .state .registers .mode) (k .state .integrator) (remaining i)
+    keptRow = rowOf bundle curves (k .topology) (cacheOfParts k) (s .registers .mode) (s .integrator) (remaining i)
 
-    row-fresh : keptRow ≡ row lent out (k .state) samples i far
-    row-fresh = ap (λ (c : Core). rowOf bundle curves (c .topology) (c .controls) (k .state .registers .mode) (k .state .integrator) (remaining i)) fresh
+    row-fresh : keptRow ≡ row lent out s samples i far
+    unfolding partsOf
+    row-fresh =
+        ap (λ (x : Parts). rowOf bundle curves (x .topology) (cacheOfParts x) (s .registers .mode) (s .integrator) (remaining i)) is
+        ∙ row-same-samples bundle curves (freshTopologyOf s) (cacheOfParts (partsOf bundle s)) (controlsOf bundle s) (s .registers .mode)
+        (λ j sum energy. parts-sample bundle curves s (far .good) j sum energy) (s .integrator) (remaining i)
 
-    module _ {r : Row} (is-row : r ≡ rowEnd i samples keptRow) {after : List ℕ} (is-after : after ≡ putAt out (16 * samples) (sampleBytes (keptRow .outputs))) {here : Core} (is-here : here ≡ resumedOf k (r .integrator)) {d : Bool} (is-d : d ≡ isDoneOf (r .answer)) where
+    -- a row of samples
+    module _ {r : Row} (is-row : r ≡ rowEnd i samples keptRow) {after : List ℕ} (is-after : after ≡ putAt out (16 * samples) (sampleBytes (keptRow .outputs))) {d : Bool} (is-d : d ≡ isDoneOf (r .answer)) where
       abbrev w : Samples
-      w = row lent out (k .state) samples i far
+      w = row lent out s samples i far
 
       r-is : r ≡ rowEnd i samples w
       r-is = is-row ∙ ap (rowEnd i samples) row-fresh
@@ -393,66 +451,46 @@ module _ (bundle curves script : List ℕ) (count : ℕ) (s₀ : State) (out₀ 
       after-is : after ≡ putAt out (16 * samples) (sampleBytes (w .outputs))
       after-is = is-after ∙ ap (λ (x : Samples). putAt out (16 * samples) (sampleBytes (x .outputs))) row-fresh
 
-      here-is : here ≡ coreOf bundle (withIntegrator (k .state) (w .integrator))
-      unfolding controlsOf
-      here-is = is-here ∙ ap (λ (x : Row). resumedOf k (x .integrator)) r-is ∙ ap (λ (c : Core). record { state = withIntegrator (k .state) (w .integrator); topology = c .topology; controls = c .controls }) fresh
+      d-is : (b : Bool) → d ≡ b → isDoneOf (w .answer) ≡ b
+      d-is b h = ap (λ (x : Row). isDoneOf (x .answer)) (sym r-is) ∙ sym is-d ∙ h
 
-      d-is : d ≡ isDoneOf (w .answer)
-      d-is = is-d ∙ ap (λ (x : Row). isDoneOf (x .answer)) r-is
+      pub row-goes : d ≡ true → (k ≡ partsOf bundle (withIntegrator s (r .integrator))) × Sofar after (withIntegrator s (r .integrator)) (r .samples) (r .events)
+      row-goes h = (is ∙ sym (parts-stay s (r .integrator)), rw (r-is, after-is) (row-done lent out s samples i far (d-is true h)))
 
-      pub row-ends : (d && ltb (r .events) count) ≡ false → Finished (r .answer) (r .events) (r .samples) (here .state) after
-      row-ends t = rw (r-is, after-is, here-is) (go (isDoneOf (w .answer)) refl (simp (d-is, r-is) at t))
+      pub row-stops : d ≡ false → Finished (r .answer) (r .events) (r .samples) (withIntegrator s (r .integrator)) after
+      row-stops h = rw (r-is, after-is) (row-stopped lent out s samples i far (d-is false h))
+
+      -- it has one sample at least
+      pub row-moves : i < count → (e : Event) → eventAt script (8 + 12 * i) ≡ Readable e → {ask : Asked} → ask ≡ askedOf e → ask .sample ≡ true → d ≡ true → i < r .events
+      row-moves more e at asks wanted h = rw r-is (go (w .events) refl)
         where
-          go : (b : Bool) → isDoneOf (w .answer) ≡ b → (b && ltb (i + w .events) count) ≡ false → Finished (w .answer) (i + w .events) (samples + length (w .outputs)) (withIntegrator (k .state) (w .integrator)) (putAt out (16 * samples) (sampleBytes (w .outputs)))
-          go true h u = rw (done-is (w .answer) h) (at-end lent _ _ _ _ (row-done lent out (k .state) samples i far h) (ltb-false (i + w .events) count u))
-          go false h u = row-stopped lent out (k .state) samples i far h
+          go : (n : ℕ) → w .events ≡ n → i < i + n
+          go zero z =
+              let here : drop (w .events) (remaining i) ≡ e ∷ remaining (i + 1) = ap (λ (n : ℕ). drop n (remaining i)) z ∙ events-next script count i more e at in
+              absurd (true≢false (sym wanted ∙ ap (λ (a : Asked). a .sample) asks ∙ law lent out s samples i far .ends e (remaining (i + 1)) (d-is true h) here))
+          go (suc n) z = omega arith
 
-      module _ (t : (d && ltb (r .events) count) ≡ true) where
-        going : (isDoneOf (w .answer) ≡ true) × (i + w .events < count)
-        going =
-            let p = both d (ltb (r .events) count) t in
-            (sym d-is ∙ p .0, ltb-true (i + w .events) count (ap (λ (x : Row). ltb (x .events) count) (sym r-is) ∙ p .1))
+    -- an event that is no sample
+    module _ (more : i < count) (e : Event) (at : eventAt script (8 + 12 * i) ≡ Readable e) {ask : Asked} (asks : ask ≡ askedOf e) (other : ask .sample ≡ false) {c : Changed} (is-c : c ≡ changeOf bundle k s e) {d : Bool} (is-d : d ≡ isDoneOf (c .answer)) where
+      no-sample-here : askedOf e .sample ≡ false
+      no-sample-here = ap (λ (a : Asked). a .sample) (sym asks) ∙ other
 
-        pub more : r .events < count
-        more = rw r-is (going .1)
+      stepped : Stepped bundle curves s e c
+      stepped = rw is-c (change-steps bundle curves s (far .good) is e no-sample-here)
 
-        there : Sofar after (here .state) (r .samples) (r .events)
-        there = rw (r-is, after-is, here-is) (row-done lent out (k .state) samples i far (going .0))
+      pub change-goes : d ≡ true → (c .parts ≡ partsOf bundle (c .state)) × Sofar out (c .state) samples (i + 1)
+      change-goes h =
+          let p = stepped .done (sym is-d ∙ h) in
+          rw (p .1) (p .2, event-done lent out s samples i far e more at no-sample-here (ap isDoneOf (p .0)))
 
-        pub unreadable : eventAt script (8 + 12 * r .events) ≡ Unreadable → ⊥
-        unreadable = readable-here lent after (here .state) (r .samples) (r .events) there more
+      pub change-stops : d ≡ false → Finished (c .answer) i samples s out
+      change-stops h =
+          let p = stepped .refused (sym is-d ∙ h) in
+          subst (λ (a : Answer). Finished a i samples s out) p (event-stopped lent out s samples i far e more at no-sample-here (ap isDoneOf p ∙ sym is-d ∙ h))
 
-        module _ (e : Event) (is : eventAt script (8 + 12 * r .events) ≡ Readable e) {fed : Fed} (is-fed : fed ≡ fedOf bundle curves here e) {b : Bool} (is-b : b ≡ isDoneOf (fed .answer)) where
-          other : askedOf e .sample ≡ false
-          other = row-next lent out (k .state) samples i far (going .0) e (going .1) (ap (λ (x : Row). eventAt script (8 + 12 * x .events)) (sym r-is) ∙ is)
+    pub unreadable : i < count → eventAt script (8 + 12 * i) ≡ Unreadable → ⊥
+    unreadable = readable-here lent out s samples i far
 
-          here-kept : Kept bundle here
-          here-kept = record { valid = there .good .valid; fresh = here-is ∙ ap (coreOf bundle) (sym (ap (λ (c : Core). c .state) here-is)); judged = there .good .judged }
-
-          fed-plain : shown e fed ≡ plainStep bundle curves (here .state) e
-          fed-plain = ap (shown e) is-fed ∙ steps bundle curves lent here e here-kept .0
-
-          fed-kept : Kept bundle (fed .core)
-          fed-kept = subst (λ (x : Fed). Kept bundle (x .core)) (sym is-fed) (steps bundle curves lent here e here-kept .1)
-
-          answer-is : (v : Bool) → b ≡ v → isDoneOf (plainStep bundle curves (here .state) e .answer) ≡ v
-          answer-is v h = ap (λ (p : Plain). isDoneOf (p .answer)) (sym fed-plain) ∙ sym is-b ∙ h
-
-          pub goes-on : b ≡ true → Fresh bundle (fed .core) × Sofar after (fed .core .state) (r .samples) (r .events + 1)
-          goes-on h = (
-            fed-kept .fresh,
-            subst (λ (s : State). Sofar after s (r .samples) (r .events + 1)) (ap (λ (p : Plain). p .state) (sym fed-plain))
-                (event-done lent after (here .state) (r .samples) (r .events) there e more is other (answer-is true h)),
-          )
-
-          pub stops : b ≡ false → Finished (fed .answer) (r .events) (r .samples) (here .state) after
-          stops h =
-              subst (λ (a : Answer). Finished a (r .events) (r .samples) (here .state) after) (ap (λ (p : Plain). p .answer) (sym fed-plain))
-              (event-stopped lent after (here .state) (r .samples) (r .events) there e more is other (answer-is false h))
-
--- a row of samples does not go back
-pub onward : (i n : ℕ) {m : ℕ} → m ≡ i + n → i ≤ m
-onward i n h = omega arith
-
-pub below : (d : Bool) (n count : ℕ) → (d && ltb n count) ≡ true → n < count
-below d n count h = ltb-true n count (both d (ltb n count) h .1)
+pub rest-is : (bundle : List ℕ) (s : State) {k : Parts} → k ≡ partsOf bundle s → k .rest ≡ restOf bundle (k .topology)
+unfolding partsOf
+rest-is bundle s is = rw is refl

@@ -19,9 +19,9 @@ use Rattle.sample.specs.declared.Sampled.the-variants.{Taken, Refused}
 use Rattle.sample.specs.Sample.{sampleOf}
 use Rattle.sample.specs.Kept.{cacheOf, restOf, sampleKeptOf}
 use Rattle.sample.proofs.Kept.{kept-is-sample}
-use Rattle.controls.specs.declared.CoreControls.{CoreControls}
-use Rattle.controls.specs.Kept.{coreControlsOf}
-use Rattle.bundle.specs.declared.Read.{Read}
+use Rattle.controls.specs.Kept.{inputDrives, feedbackDrives}
+use Rattle.run.specs.declared.Parts.{Parts}
+use Rattle.run.specs.Parts.{cacheOfParts}
 use lib.Ieee.{Float}
 use Rattle.script.specs.declared.Event.{Event}
 use Rattle.script.specs.declared.Event.the-variants.{CutoffLow, CutoffHigh, Routing, Mode, Sample, Reset}
@@ -38,9 +38,9 @@ use Rattle.run.proofs.Bytes.{length-outputs, length-output}
 -- ---- a sample on the kept parts
 
 pub kept-sample :
-    (bundle curves : List ℕ) (t : MixingTopology) (c : ControlCache) (mode : ℕ) {k : CoreControls} {rest : Read} → k ≡ coreControlsOf (c .filter) → rest ≡ restOf bundle t → (i : IntegratorState) (sum energy : Float)
-    → sampleKeptOf curves t (cacheOf (c .filter .«integrator_gain») (c .filter .«input_drive») (c .filter .«feedback_drive») k (c .«mode_output_gain»)) rest mode i sum energy ≡ sampleOf bundle curves t c mode i sum energy
-kept-sample bundle curves t c mode hk hr i sum energy = rw (hk, hr) (kept-is-sample bundle curves t c mode i sum energy)
+    (bundle curves : List ℕ) (k : Parts) (mode : ℕ) {drives feedback : List Float} → drives ≡ inputDrives → feedback ≡ feedbackDrives → k .rest ≡ restOf bundle (k .topology) → (i : IntegratorState) (sum energy : Float)
+    → sampleKeptOf curves (k .topology) (cacheOf (k .gains) drives feedback (k .core) (k .«mode_output_gain»)) (k .rest) mode i sum energy ≡ sampleOf bundle curves (k .topology) (cacheOfParts k) mode i sum energy
+kept-sample bundle curves k mode hi hf hr i sum energy = rw (hi, hf, hr) (kept-is-sample bundle curves (k .topology) (cacheOfParts k) mode i sum energy)
 
 -- ---- the samples among events
 

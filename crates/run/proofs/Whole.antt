@@ -26,12 +26,12 @@ use Rattle.script.specs.declared.Checked.the-variants.{WellFormed, Refused}
 use Rattle.script.specs.Script.{wellFormed, countOf, slicesOf, allReadable, eventsIn, eventsOf, samplesOf, checkOf}
 use Rattle.script.proofs.Laws.{slicesFrom, sample-le}
 use Rattle.script.proofs.Cut.{Header, header, events-count}
-use Rattle.filter.specs.declared.Core.{Core}
-use Rattle.filter.specs.declared.Written.{Written}
-use Rattle.filter.specs.Core.{coreOf, judgeLentOf, judgeStateOf, startAnswerOf, startedOf}
-use Rattle.filter.proofs.Demand3.{Kept, started-kept}
+use Rattle.filter.specs.Core.{judgeLentOf}
 use Rattle.run.specs.declared.Played.{Played}
 use Rattle.run.specs.declared.Ended.{Ended}
+use Rattle.run.specs.declared.Worked.{Worked}
+use Rattle.run.specs.Parts.{partsOf, workedOf}
+use Rattle.run.proofs.Changes.{worked-answer}
 use Rattle.filter.specs.Plain.{Plain, plainStep}
 use Rattle.run.specs.Run.{Ran, stopped, went, playOf, playedOf, sampleBytes, isValid, judgeBlockOf, judgeScriptOf, judgeRunOf, Run, leftOf, runOf}
 use Rattle.run.specs.Rows.{playEnd, endedOf}
@@ -101,16 +101,12 @@ module _ (bundle curves block script : List ℕ) (room : ℕ) (judged : judgeRun
       go Invalid e h = absurd (true≢false (sym h))
 
   -- the start
-  module _ (s : State) {x : Decoded} (e : x ≡ decodeOf block) (h : x ≡ Valid s) {w : Written} (is : w ≡ startedOf bundle curves s) {d : Bool} (is-d : d ≡ isDoneOf (w .answer)) where
+  module _ (s : State) {x : Decoded} (e : x ≡ decodeOf block) (h : x ≡ Valid s) {w : Worked} (is : w ≡ workedOf bundle s) {d : Bool} (is-d : d ≡ isDoneOf (w .answer)) where
     decodes : Decodes block s
     decodes = decoded block s (sym e ∙ h)
 
-    start-is : startAnswerOf bundle curves s ≡ judgeControlsOf bundle s
-    unfolding startAnswerOf
-    start-is = rw (parts .0, decodes .valid) refl
-
     answer-is : w .answer ≡ judgeControlsOf bundle s
-    answer-is = ap (λ (x : Written). x .answer) is ∙ start-is
+    answer-is = ap (λ (x : Worked). x .answer) is ∙ worked-answer bundle s (decodes .valid)
 
     done-here : (v : Bool) → d ≡ v → isDoneOf (judgeControlsOf bundle s) ≡ v
     done-here v h = ap isDoneOf (sym answer-is) ∙ sym is-d ∙ h
@@ -123,21 +119,19 @@ module _ (bundle curves block script : List ℕ) (room : ℕ) (judged : judgeRun
     start-stops f output = rw (decodes .fields, answer-is, done-here false f) (refl, sym (putAt-nil output 0))
 
     module _ (t : d ≡ true) where
-      pub start-kept : Kept bundle (w .core)
-      start-kept = rw is (started-kept bundle curves s (start-is ∙ done-is (judgeControlsOf bundle s) (done-here true t)))
-
       pub first-is : slicesFrom script (u32At script 0) 0 ≡ slicesOf script
       first-is = rw (sub-zero (countOf script)) refl
 
-      pub start-plays : {count : ℕ} → count ≡ u32At script 0 → playOf bundle curves (w .core .state) (eventsIn (slicesFrom script count 0)) ≡ playedOf bundle curves (fieldsOf block) (eventsOf script)
+      pub start-plays : {count : ℕ} → count ≡ u32At script 0 → playOf bundle curves s (eventsIn (slicesFrom script count 0)) ≡ playedOf bundle curves (fieldsOf block) (eventsOf script)
       unfolding playedOf
-      start-plays c = rw (c, decodes .fields, is, done-here true t, first-is) refl
+      start-plays c = rw (c, decodes .fields, done-here true t, first-is) refl
 
       pub ready : {count : ℕ} → count ≡ u32At script 0
-          → (count ≤ 65536) × (judgeLentOf bundle curves ≡ Done) × Kept bundle (w .core) × (allReadable (slicesFrom script count 0) ≡ true) × (16 * samplesOf (eventsIn (slicesFrom script count 0)) ≤ room)
+          → ((count ≤ 65536) × (judgeLentOf bundle curves ≡ Done) × (validOf s ≡ true) × (judgeControlsOf bundle s ≡ Done) × (allReadable (slicesFrom script count 0) ≡ true) × (16 * samplesOf (eventsIn (slicesFrom script count 0)) ≤ room))
+          × (w .parts ≡ partsOf bundle s)
       ready c =
           let k = header script formed in
-          rw (c, first-is) (k .few, parts .0, start-kept, k .readable, roomy)
+          (rw (c, first-is) (k .few, parts .0, decodes .valid, done-is (judgeControlsOf bundle s) (done-here true t), k .readable, roomy), ap (λ (x : Worked). x .parts) is)
 
 -- ---- the bytes that are left
 

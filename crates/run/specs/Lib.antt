@@ -1,3 +1,4 @@
 pub mod Run
 pub mod Rows
+pub mod Parts
 pub mod Pieces

@@ -16,8 +16,6 @@ use Rattle.sample.specs.declared.Sampled.the-variants.{Taken, Refused}
 use Rattle.sample.specs.Sample.{sampleOf}
 use Rattle.script.specs.declared.Event.{Event}
 use Rattle.script.specs.declared.Event.the-variants.{CutoffLow, CutoffHigh, Routing, Mode, Sample, Reset}
-use Rattle.filter.specs.declared.Core.{Core}
-use Rattle.filter.specs.Core.{withIntegrator}
 use Rattle.run.specs.declared.Asked.{Asked}
 use Rattle.run.specs.declared.Row.{Row}
 use Rattle.run.specs.declared.Played.{Played}
@@ -67,10 +65,6 @@ rowEnd events samples r = record { answer = r .answer; events = events + r .even
 
 abbrev pub playEnd : ℕ → ℕ → Ran → Played
 playEnd events samples r = record { answer = r .answer; events = events + r .events; samples = samples + length (r .samples); state = r .state }
-
--- the core with another integrator
-abbrev pub resumedOf : Core → IntegratorState → Core
-resumedOf k i = record { state = withIntegrator (k .state) i; topology = k .topology; controls = k .controls }
 
 -- what a run answers, without the bytes
 abbrev pub endedOf : Run → Ended

@@ -8,14 +8,20 @@ ghost use Rattle.control.specs.Block.{fieldsOf};
 ghost use Rattle.script.specs.Script.{allReadable, eventsIn, eventsOf, samplesOf};
 ghost use Rattle.script.proofs.Laws.{slicesFrom};
 ghost use Rattle.answers.specs.declared.Answer.the-variants.{Done};
-ghost use Rattle.filter.specs.Core.{judgeLentOf};
-ghost use Rattle.filter.proofs.Demand3.{Kept};
+ghost use Rattle.control.specs.Registers.{effectiveCutoffOf};
+ghost use Rattle.controls.specs.Kept.{coreRefreshedOf};
+ghost use Rattle.filter.specs.Core.{freshTopologyOf, judgeLentOf};
+ghost use Rattle.sample.specs.Kept.{restOf};
+ghost use Rattle.control.specs.Block.{validOf};
+ghost use Rattle.controls.specs.Judging.{judgeControlsOf};
 ghost use Rattle.run.specs.Run as R;
 ghost use Rattle.run.specs.Rows as W;
+ghost use Rattle.run.specs.Parts as P;
 use answers::Answer;
+use bundle::Read;
 use control::State;
-use controls::ControlCache;
-use filter::Core;
+use controls::CoreControls;
+use controls::CoreRefreshed;
 use integrator::IntegratorState;
 use mixing::MixingTopology;
 use sample::Outputs;
@@ -44,6 +50,28 @@ pub struct Row {
     pub events: usize,
     pub samples: usize,
     pub integrator: IntegratorState,
+}
+
+// What is kept between events: of the controls the part that a sample reads, and the summer's rest.
+pub struct Parts {
+    pub topology: MixingTopology,
+    pub gains: [f32; 16],
+    pub core: CoreControls,
+    pub mode_output_gain: f32,
+    pub rest: Read,
+}
+
+// The parts of a state, and whether working them out is refused.
+pub struct Worked {
+    pub answer: Answer,
+    pub parts: Parts,
+}
+
+// The state after an event that is no sample, with its parts, and whether it is refused.
+pub struct Changed {
+    pub answer: Answer,
+    pub state: State,
+    pub parts: Parts,
 }
 
 // Where the events end.
@@ -84,6 +112,164 @@ fn no_sample() -> Asked
     }
 }
 
+// ---- what is kept
+
+fn gain_value(gain: Read) -> f32
+    ensures { λ r. ⌜ r ≡ P.gainValue gain ⌝ }
+{
+    match gain {
+        Read::Value(x) => x,
+        Read::Refused(_answer) => 0.0,
+    }
+}
+
+fn gain_answer(gain: Read) -> Answer
+    ensures { λ r. ⌜ r ≡ P.gainAnswer gain ⌝ }
+{
+    match gain {
+        Read::Value(_x) => Answer::Done,
+        Read::Refused(answer) => answer,
+    }
+}
+
+fn gain_of(bundle: &[u8], state: State) -> Read
+    ensures { λ r. ⌜ r ≡ P.stateGain (now (bundle .entry)) state ⌝ }
+{
+    let registers = state.registers;
+    controls::refresh_gain(bundle, registers, state.effective_cutoff())
+}
+
+fn core_of(bundle: &[u8], state: State) -> CoreRefreshed
+    ensures { λ r. ⌜ r ≡ coreRefreshedOf (now (bundle .entry)) (effectiveCutoffOf state) (state .registers .resonance) ⌝ }
+{
+    let registers = state.registers;
+    controls::refresh_core(bundle, state.effective_cutoff(), registers.resonance)
+}
+
+fn topology_of(state: State) -> MixingTopology
+    ensures { λ r. ⌜ r ≡ freshTopologyOf state ⌝ }
+{
+    let registers = state.registers;
+    MixingTopology::update(registers.routing, registers.mode)
+}
+
+// Everything, worked out from a state. Refuses 3, 6.
+fn work_out(bundle: &[u8], state: State) -> Worked
+    ensures { λ r. ⌜ r ≡ P.workedOf (now (bundle .entry)) state ⌝ }
+{
+    let fresh = core_of(bundle, state);
+    let gain = gain_of(bundle, state);
+    let judged = fresh.answer;
+    let gains = fresh.integrator_gain;
+    let core = fresh.core;
+    let topology = topology_of(state);
+    let rest = sample::rest_of(bundle, topology);
+    Worked {
+        answer: answers::first(judged, gain_answer(gain)),
+        parts: Parts {
+            topology,
+            gains,
+            core,
+            mode_output_gain: gain_value(gain),
+            rest,
+        },
+    }
+}
+
+// After a write of the cutoff: topology and rest stay.
+fn recut(bundle: &[u8], parts: Parts, state: State) -> Worked
+    ensures { λ r. ⌜ r ≡ P.recutOf (now (bundle .entry)) parts state ⌝ }
+{
+    let fresh = core_of(bundle, state);
+    let gain = gain_of(bundle, state);
+    let judged = fresh.answer;
+    let gains = fresh.integrator_gain;
+    let core = fresh.core;
+    let topology = parts.topology;
+    let rest = parts.rest;
+    Worked {
+        answer: answers::first(judged, gain_answer(gain)),
+        parts: Parts {
+            topology,
+            gains,
+            core,
+            mode_output_gain: gain_value(gain),
+            rest,
+        },
+    }
+}
+
+// After a write of the mode: the filter's controls and the rest stay.
+fn reselect(bundle: &[u8], parts: Parts, state: State) -> Worked
+    ensures { λ r. ⌜ r ≡ P.reselectOf (now (bundle .entry)) parts state ⌝ }
+{
+    let gain = gain_of(bundle, state);
+    let gains = parts.gains;
+    let core = parts.core;
+    let topology = topology_of(state);
+    let rest = parts.rest;
+    Worked {
+        answer: gain_answer(gain),
+        parts: Parts {
+            topology,
+            gains,
+            core,
+            mode_output_gain: gain_value(gain),
+            rest,
+        },
+    }
+}
+
+fn changed_to(state: State, worked: Worked) -> Changed
+    ensures { λ r. ⌜ r ≡ P.changedTo state worked ⌝ }
+{
+    let answer = worked.answer;
+    let parts = worked.parts;
+    Changed {
+        answer,
+        state,
+        parts,
+    }
+}
+
+// An event that is no sample.
+fn change(bundle: &[u8], parts: Parts, state: State, event: Event) -> Changed
+    ensures { λ r. ⌜ r ≡ P.changeOf (now (bundle .entry)) parts state event ⌝ }
+{
+    match event {
+        Event::CutoffLow(value) => {
+            let next = state.write_cutoff_low(value);
+            changed_to(next, recut(bundle, parts, next))
+        }
+        Event::CutoffHigh(value) => {
+            let next = state.write_cutoff_high(value);
+            changed_to(next, recut(bundle, parts, next))
+        }
+        Event::Routing(value) => {
+            let next = state.write_signal_routing(value);
+            changed_to(next, work_out(bundle, next))
+        }
+        Event::Mode(value) => {
+            let next = state.write_mode_and_volume(value);
+            changed_to(next, reselect(bundle, parts, next))
+        }
+        Event::Sample {
+            input_sum,
+            source_energy,
+        } => Changed {
+            answer: Answer::Done,
+            state,
+            parts,
+        },
+        Event::Reset => {
+            let next = state.reset();
+            changed_to(next, work_out(bundle, next))
+        }
+    }
+}
+
+// ---- samples in a row
+
 // Writes a sample's sixteen bytes.
 fn put_outputs(output: &mut [u8], place: usize, o: Outputs)
     ensures { λ _. ⌜ now (output .exit) ≡ putAt (now (output .entry)) place (R.outputBytes o) ⌝ }
@@ -102,8 +288,7 @@ fn put_outputs(output: &mut [u8], place: usize, o: Outputs)
 fn play_samples(
     bundle: &[u8],
     curves: &[u8],
-    topology: MixingTopology,
-    controls: ControlCache,
+    parts: Parts,
     mode: u8,
     from: IntegratorState,
     script: &[u8],
@@ -113,14 +298,15 @@ fn play_samples(
     before: usize,
 ) -> Row
     requires { ⌜ (start ≤ count) × (count ≤ 65536) × (before ≤ start) × (allReadable (slicesFrom (now script) count start) ≡ true) × (16 * (before + samplesOf (eventsIn (slicesFrom (now script) count start))) ≤ length (now output)) ⌝ }
-    ensures { λ r. ⌜ (r ≡ W.rowEnd start before (W.rowOf (now (bundle .entry)) (now (curves .entry)) topology controls mode from (eventsIn (slicesFrom (now (script .entry)) count start)))) × (now (output .exit) ≡ putAt (now (output .entry)) (16 * before) (R.sampleBytes (W.rowOf (now (bundle .entry)) (now (curves .entry)) topology controls mode from (eventsIn (slicesFrom (now (script .entry)) count start)) .outputs))) ⌝ }
+    requires { ⌜ parts .rest ≡ restOf (now bundle) (parts .topology) ⌝ }
+    ensures { λ r. ⌜ (r ≡ W.rowEnd start before (W.rowOf (now (bundle .entry)) (now (curves .entry)) (parts .topology) (P.cacheOfParts parts) mode from (eventsIn (slicesFrom (now (script .entry)) count start)))) × (now (output .exit) ≡ putAt (now (output .entry)) (16 * before) (R.sampleBytes (W.rowOf (now (bundle .entry)) (now (curves .entry)) (parts .topology) (P.cacheOfParts parts) mode from (eventsIn (slicesFrom (now (script .entry)) count start)) .outputs))) ⌝ }
 {
-    let filter = controls.filter;
-    let gains = filter.integrator_gain;
-    let input_drives = filter.input_drive;
-    let feedback_drives = filter.feedback_drive;
-    let core = controls::core_controls(filter);
-    let rest = sample::rest_of(bundle, topology);
+    let topology = parts.topology;
+    let gains = parts.gains;
+    let core = parts.core;
+    let rest = parts.rest;
+    let input_drives = controls::input_drives();
+    let feedback_drives = controls::feedback_drives();
     let mut integrator = from;
     let mut samples = before;
     let mut i = start;
@@ -142,7 +328,7 @@ fn play_samples(
                 &input_drives,
                 &feedback_drives,
                 core,
-                controls.mode_output_gain,
+                parts.mode_output_gain,
                 rest,
                 mode,
                 integrator,
@@ -181,88 +367,81 @@ fn play_samples(
     }
 }
 
-// The core with another integrator.
-fn resumed(core: Core, integrator: IntegratorState) -> Core
-    ensures { λ r. ⌜ r ≡ W.resumedOf core integrator ⌝ }
-{
-    let mut next = core;
-    let mut state = core.state;
-    state.integrator = integrator;
-    next.state = state;
-    next
-}
+// ---- the events
 
-// The events of a script from its first core on: samples in a row, then one event that is none, and so on.
+// The events of a script from a state and its parts on: samples in a row, then one event that is none, and so on.
 fn play(
     bundle: &[u8],
     curves: &[u8],
-    first: Core,
+    first: State,
+    kept: Parts,
     script: &[u8],
     count: usize,
     output: &mut [u8],
 ) -> Played
-    requires { ⌜ (count ≤ 65536) × (judgeLentOf (now bundle) (now curves) ≡ Done) × Kept (now bundle) first × (allReadable (slicesFrom (now script) count 0) ≡ true) × (16 * samplesOf (eventsIn (slicesFrom (now script) count 0)) ≤ length (now output)) ⌝ }
-    ensures { λ r. ⌜ (r ≡ W.playEnd 0 0 (R.playOf (now (bundle .entry)) (now (curves .entry)) (first .state) (eventsIn (slicesFrom (now (script .entry)) count 0)))) × (now (output .exit) ≡ putAt (now (output .entry)) 0 (R.sampleBytes (R.playOf (now (bundle .entry)) (now (curves .entry)) (first .state) (eventsIn (slicesFrom (now (script .entry)) count 0)) .samples))) ⌝ }
+    requires { ⌜ (count ≤ 65536) × (judgeLentOf (now bundle) (now curves) ≡ Done) × (validOf first ≡ true) × (judgeControlsOf (now bundle) first ≡ Done) × (allReadable (slicesFrom (now script) count 0) ≡ true) × (16 * samplesOf (eventsIn (slicesFrom (now script) count 0)) ≤ length (now output)) ⌝ }
+    requires { ⌜ kept ≡ P.partsOf (now bundle) first ⌝ }
+    ensures { λ r. ⌜ (r ≡ W.playEnd 0 0 (R.playOf (now (bundle .entry)) (now (curves .entry)) first (eventsIn (slicesFrom (now (script .entry)) count 0)))) × (now (output .exit) ≡ putAt (now (output .entry)) 0 (R.sampleBytes (R.playOf (now (bundle .entry)) (now (curves .entry)) first (eventsIn (slicesFrom (now (script .entry)) count 0)) .samples))) ⌝ }
 {
-    let mut core = first;
+    let mut state = first;
+    let mut parts = kept;
     let mut samples = 0;
     let mut i = 0;
     while i < count {
-        let state = core.state;
-        let registers = state.registers;
-        let integrator = state.integrator;
-        let topology = core.topology;
-        let controls = core.controls;
-        let row = play_samples(
-            bundle,
-            curves,
-            topology,
-            controls,
-            registers.mode,
-            integrator,
-            script,
-            i,
-            count,
-            output,
-            samples,
-        );
-        let answer = row.answer;
-        let after = row.integrator;
-        let here = resumed(core, after);
-        let reached = here.state;
-        if answers::is_done(answer) & (row.events < count) {
-            let Decoded::Readable(event) = script::event_at(script, 8 + 12 * row.events) else {
-                return Played {
-                    answer: Answer::Script,
-                    events: row.events,
-                    samples: row.samples,
-                    state: reached,
-                };
+        let Decoded::Readable(event) = script::event_at(script, 8 + 12 * i) else {
+            return Played {
+                answer: Answer::Script,
+                events: i,
+                samples,
+                state,
             };
-            let fed = here.feed(bundle, curves, event);
-            let told = fed.answer;
-            if answers::is_done(told) {
-                core = fed.core;
-                samples = row.samples;
-                i = row.events + 1;
-            } else {
-                return Played {
-                    answer: told,
-                    events: row.events,
-                    samples: row.samples,
-                    state: reached,
-                };
+        };
+        let ask = asks(event);
+        if ask.sample {
+            let registers = state.registers;
+            let integrator = state.integrator;
+            let row = play_samples(
+                bundle,
+                curves,
+                parts,
+                registers.mode,
+                integrator,
+                script,
+                i,
+                count,
+                output,
+                samples,
+            );
+            let answer = row.answer;
+            let after = row.integrator;
+            state.integrator = after;
+            samples = row.samples;
+            i = row.events;
+            if answers::is_done(answer) {
+                continue;
             }
+            return Played {
+                answer,
+                events: i,
+                samples,
+                state,
+            };
+        }
+        let changed = change(bundle, parts, state, event);
+        let answer = changed.answer;
+        if answers::is_done(answer) {
+            state = changed.state;
+            parts = changed.parts;
+            i += 1;
         } else {
             return Played {
                 answer,
-                events: row.events,
-                samples: row.samples,
-                state: reached,
+                events: i,
+                samples,
+                state,
             };
         }
     }
-    let state = core.state;
     Played {
         answer: Answer::Done,
         events: i,
@@ -322,12 +501,12 @@ fn play_block(
             state: State::new(),
         };
     };
-    let started = Core::start(bundle, curves, state);
-    let answer = started.answer;
-    let core = started.core;
+    let worked = work_out(bundle, state);
+    let answer = worked.answer;
+    let parts = worked.parts;
     if answers::is_done(answer) {
         let count = wire::u32_at(script, 0) as usize;
-        return play(bundle, curves, core, script, count, output);
+        return play(bundle, curves, state, parts, script, count, output);
     }
     Played {
         answer,

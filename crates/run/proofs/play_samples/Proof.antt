@@ -2,27 +2,28 @@ use Prim.Native.Nat.{_-_}
 use native.Mathlib.Omega.{arith}
 use mathlib.Core.Path.{_≡_, sym, _∙_}
 use borrow.Author.Needs.{needs}
+use Rattle.run.specs.Parts.{cacheOfParts}
 use Rattle.run.proofs.Rows.{kept-sample, Sofar, sofar-start, unreadable, other, refused, turned, at-end}
 use Rattle.run.proofs.play_samples.Statement.{statement}
 use Rattle.run.proofs.play_samples.Tie as tie
 
 abbrev Inv-loop : tie.InvT-loop
-Inv-loop bundle curves topology controls mode script start count output₀ before gains input-drives feedback-drives core rest integrator₀ samples₀ i₀ output integrator samples i =
-    Sofar bundle curves topology controls mode script count start before output₀ integrator₀ output integrator samples i
+Inv-loop bundle curves parts mode script start count output₀ before topology gains core rest input-drives feedback-drives integrator₀ samples₀ i₀ output integrator samples i =
+    Sofar bundle curves (parts .topology) (cacheOfParts parts) mode script count start before output₀ integrator₀ output integrator samples i
 
 abbrev μ-loop : tie.MeasureT-loop
-μ-loop bundle curves topology controls mode script start count output₀ before gains input-drives feedback-drives core rest integrator₀ samples₀ i₀ output integrator samples i = count - i
+μ-loop bundle curves parts mode script start count output₀ before topology gains core rest input-drives feedback-drives integrator₀ samples₀ i₀ output integrator samples i = count - i
 
-core-controls-requires : tie.Need-core-controls-requires Inv-loop μ-loop
-core-controls-requires c κs = search needs
+input-drives-requires : tie.Need-input-drives-requires Inv-loop μ-loop
+input-drives-requires c κs = search needs
 
-rest-of-requires : tie.Need-rest-of-requires Inv-loop μ-loop
-rest-of-requires c κs = search needs
+feedback-drives-requires : tie.Need-feedback-drives-requires Inv-loop μ-loop
+feedback-drives-requires c κs = search needs
 
 loop-holds : tie.Need-loop-holds Inv-loop μ-loop
 loop-holds c =
-    let z = c .before .before .before .before .before .before .before .before .before .before in
-    sofar-start _ _ _ _ _ _ _ _ _ _ _ (z .pre .0) (z .pre .2) (z .pre .3) (z .pre .4)
+    let z = c .before .before .before .before .before .before .before .before .before .pre .0 in
+    sofar-start _ _ _ _ _ _ _ _ _ _ _ (z .0) (z .2) (z .3) (z .4)
 
 mul-event-at : tie.Need-mul-event-at Inv-loop μ-loop
 mul-event-at c = search needs
@@ -61,7 +62,7 @@ mul-put-outputs c =
     let l = c .before .before .before .before .before .before .before .before .before .before .before .before .before .before .before in
     let few = l .loop .inv .few in
     let within = l .loop .inv .within in
-    let most = l .before .before .before .before .before .before .before .before .before .before .before .pre .1 in
+    let most = l .before .before .before .before .before .before .before .before .before .before .pre .0 .1 in
     record { fits = omega arith }
 
 put-outputs-requires : tie.Need-put-outputs-requires Inv-loop μ-loop
@@ -72,7 +73,7 @@ add-samples c =
     let l = c .before .before .before .before .before .before .before .before .before .before .before .before .before .before .before .before .before .before in
     let few = l .loop .inv .few in
     let within = l .loop .inv .within in
-    let most = l .before .before .before .before .before .before .before .before .before .before .before .pre .1 in
+    let most = l .before .before .before .before .before .before .before .before .before .before .pre .0 .1 in
     record { fits = omega arith }
 
 add-i : tie.Need-add-i Inv-loop μ-loop
@@ -80,7 +81,7 @@ add-i c =
     let l = c .before .before .before .before .before .before .before .before .before .before .before .before .before .before .before .before .before .before in
     let few = l .loop .inv .few in
     let within = l .loop .inv .within in
-    let most = l .before .before .before .before .before .before .before .before .before .before .before .pre .1 in
+    let most = l .before .before .before .before .before .before .before .before .before .before .pre .0 .1 in
     record { fits = omega arith }
 
 loop-less : tie.Need-loop-less Inv-loop μ-loop
@@ -97,7 +98,7 @@ loop-again c =
     let l = e .before .before in
     rw (c .before .before .put-outputs .ensures)
     (turned _ _ _ _ _ _ _ _ _ _ _ _ _ _ _ (l .loop .inv) (e .before .loop-test .taken) (v .event .given .0 .0) (sym (e .event-at .ensures) ∙ v .event .given .1) (s .before .before .before .before .before .asks .ensures) (s .before .before .before .before .if1 .taken) _ _
-    (s .sample-kept .ensures ∙ kept-sample _ _ _ _ _ (l .before .before .core-controls .ensures) (l .before .rest-of .ensures) _ _ _) (o .outputs .given .1))
+    (s .sample-kept .ensures ∙ kept-sample _ _ _ _ (l .before .before .input-drives .ensures) (l .before .feedback-drives .ensures) (l .before .before .before .before .before .before .before .before .before .before .pre .1) _ _ _) (o .outputs .given .1))
 
 enum-known-answer : tie.Need-enum-known-answer Inv-loop μ-loop
 enum-known-answer c = search needs
@@ -112,7 +113,7 @@ returns-2 c =
     let e = v .before .before in
     let l = e .before .before in
     refused _ _ _ _ _ _ _ _ _ _ _ _ _ _ _ (l .loop .inv) (e .before .loop-test .taken) (v .event .given .0 .0) (sym (e .event-at .ensures) ∙ v .event .given .1) (s .before .before .before .before .before .asks .ensures) (s .before .before .before .before .if1 .taken) _
-    (s .sample-kept .ensures ∙ kept-sample _ _ _ _ _ (l .before .before .core-controls .ensures) (l .before .rest-of .ensures) _ _ _) (c .before .answer .given .1)
+    (s .sample-kept .ensures ∙ kept-sample _ _ _ _ (l .before .before .input-drives .ensures) (l .before .feedback-drives .ensures) (l .before .before .before .before .before .before .before .before .before .before .pre .1) _ _ _) (c .before .answer .given .1)
 
 same-length-3 : tie.Need-same-length-3 Inv-loop μ-loop
 same-length-3 c = search needs
@@ -135,8 +136,8 @@ play-samples-spec =
     (tie.spec
     Inv-loop
     μ-loop
-    core-controls-requires
-    rest-of-requires
+    input-drives-requires
+    feedback-drives-requires
     loop-holds
     mul-event-at
     add-event-at

@@ -1,0 +1,43 @@
+use Rattle.controls.specs.Kept.{coreRefreshedOf}
+use Rattle.run.specs.Parts.{partsOf}
+use borrow.Author.Needs.{needs}
+use Rattle.run.proofs.work_out.Statement.{statement}
+use Rattle.run.proofs.work_out.Tie as tie
+
+core-of-requires : tie.Need-core-of-requires
+core-of-requires c κs = search needs
+
+gain-of-requires : tie.Need-gain-of-requires
+gain-of-requires c κs = search needs
+
+topology-of-requires : tie.Need-topology-of-requires
+topology-of-requires c κs = search needs
+
+rest-of-requires : tie.Need-rest-of-requires
+rest-of-requires c κs = search needs
+
+gain-answer-requires : tie.Need-gain-answer-requires
+gain-answer-requires c κs = search needs
+
+first-requires : tie.Need-first-requires
+first-requires c κs = search needs
+
+gain-value-requires : tie.Need-gain-value-requires
+gain-value-requires c κs = search needs
+
+returns : tie.Need-returns
+unfolding partsOf coreRefreshedOf
+returns c = simp (c .gain-value .ensures, c .before .first .ensures, c .before .before .gain-answer .ensures, c .before .before .before .rest-of .ensures, c .before .before .before .before .topology-of .ensures, c .before .before .before .before .before .before .before .gain-of .ensures, c .before .before .before .before .before .before .before .before .core-of .ensures)
+
+pub work-out-spec : {M : Type 1} → statement M
+work-out-spec =
+    tie.close
+    (tie.spec
+    core-of-requires
+    gain-of-requires
+    topology-of-requires
+    rest-of-requires
+    gain-answer-requires
+    first-requires
+    gain-value-requires
+    returns)
