@@ -1,6 +1,8 @@
 // A list of events on the core, each on the core that the last one handed back, under a C name for oracle/compare. What it writes is not stated: it is
 // proved to end, to stay in its buffers and to be total. No product links this.
+ghost use mathlib.Core.Path.{_≡_};
 ghost use Prim.Native.Nat.{_≤_};
+ghost use lib.ListN.{length};
 use answers::Answer;
 use control::Decoded;
 use control::State;
@@ -237,7 +239,9 @@ pub extern "C" fn probe_cores(
     block: &[u8],
     script: &[u8],
     out: &mut [u8],
-) {
+)
+    ensures { λ _. ⌜ length (now (out .exit)) ≡ length (now (out .entry)) ⌝ }
+{
     let mut fed = started(bundle, curves, state_or(block));
     let count = events(script);
     put_fed(out, 0, fed);

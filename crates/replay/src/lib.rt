@@ -71,10 +71,12 @@ fn is_short(records: &[u8], words: usize) -> bool {
     (records.len() % 4 != 0) | (records.len() / 4 % words != 0)
 }
 
-// ---- its line
+// ---- its line. What is printed is compared with the programs' files `stdout`; the functions yield nothing.
 
 // Prints the line of one file: its name, how many of its records agree and how many it has; also where it is missing, or ends within a record.
-pub fn print_line(file: &[u8], records: &[u8], words: usize, agreed: usize) {
+pub fn print_line(file: &[u8], records: &[u8], words: usize, agreed: usize)
+    ensures { λ r. ⌜ r ≡ tt ⌝ }
+{
     print_title(file);
     if records.len() == 0 {
         print(b" missing\n");
@@ -91,7 +93,9 @@ pub fn print_line(file: &[u8], records: &[u8], words: usize, agreed: usize) {
 }
 
 // Prints the line of a file of pieces: its name, how many of them agree and how many it has.
-pub fn print_pieces(file: &[u8], pieces: usize, agreed: usize) {
+pub fn print_pieces(file: &[u8], pieces: usize, agreed: usize)
+    ensures { λ r. ⌜ r ≡ tt ⌝ }
+{
     print_title(file);
     print(b" ");
     print_number(agreed);
@@ -100,11 +104,15 @@ pub fn print_pieces(file: &[u8], pieces: usize, agreed: usize) {
     print(b"\n");
 }
 
-pub fn print(text: &[u8]) {
+pub fn print(text: &[u8])
+    ensures { λ r. ⌜ r ≡ tt ⌝ }
+{
     io::write_all(STDOUT_FILENO, text);
 }
 
-pub fn print_number(n: usize) {
+pub fn print_number(n: usize)
+    ensures { λ r. ⌜ r ≡ tt ⌝ }
+{
     io::print_decimal(STDOUT_FILENO, n as u64);
 }
 
