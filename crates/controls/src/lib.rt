@@ -4,10 +4,8 @@ ghost use lib.ListN.{getD};
 ghost use lib.Ieee.{nan};
 ghost use Rattle.controls.specs.Controls as C;
 ghost use Rattle.controls.specs.Judging as J;
-ghost use Rattle.controls.specs.Kept as K;
 use answers::Answer;
 use answers::Buffer;
-use bundle::Read;
 use control::FilterRegisters;
 use control::State;
 
@@ -86,7 +84,7 @@ fn integrator_gain(bundle: &[u8], code: u16, resonance: u8) -> [f32; 16]
     ]
 }
 
-fn sixteen_of(table: [f32; 17]) -> [f32; 16]
+pub fn sixteen_of(table: [f32; 17]) -> [f32; 16]
     ensures { λ r. ⌜ r ≡ C.sixteen (λ bin. getD table bin nan) ⌝ }
 {
     [
@@ -109,14 +107,14 @@ fn sixteen_of(table: [f32; 17]) -> [f32; 16]
     ]
 }
 
-fn high_pass_low_coupling(position: f32) -> f32
+pub fn high_pass_low_coupling(position: f32) -> f32
     ensures { λ r. ⌜ r ≡ C.highPassLowCouplingOf position ⌝ }
 {
     constants::FILTER_HIGHPASS_LOW_COUPLING_ZERO
         / (1.0 + position / constants::FILTER_HIGHPASS_LOW_COUPLING_DECAY)
 }
 
-fn band_pass_low_coupling(position: f32) -> f32
+pub fn band_pass_low_coupling(position: f32) -> f32
     ensures { λ r. ⌜ r ≡ C.bandPassLowCouplingOf position ⌝ }
 {
     let square = position * position;
@@ -126,26 +124,26 @@ fn band_pass_low_coupling(position: f32) -> f32
                 * constants::FILTER_BANDPASS_LOW_COUPLING_KNEE)
 }
 
-fn resonance_position(resonance: u8) -> f32
+pub fn resonance_position(resonance: u8) -> f32
     ensures { λ r. ⌜ r ≡ C.resonancePositionOf resonance ⌝ }
 {
     floats::of_u16(resonance as u16) / 15.0
 }
 
-fn feedback_scale(r: f32) -> f32
+pub fn feedback_scale(r: f32) -> f32
     ensures { λ s. ⌜ s ≡ C.feedbackScaleOf r ⌝ }
 {
     0.78 + 0.30 * r
 }
 
-fn modulation_scale(r: f32) -> f32
+pub fn modulation_scale(r: f32) -> f32
     ensures { λ s. ⌜ s ≡ C.modulationScaleOf r ⌝ }
 {
     constants::FILTER_SOURCE_RESONANCE_FLOOR
         + (1.0 - constants::FILTER_SOURCE_RESONANCE_FLOOR) * r * r
 }
 
-fn resonance_output_gain(r: f32) -> f32
+pub fn resonance_output_gain(r: f32) -> f32
     ensures { λ g. ⌜ g ≡ C.resonanceOutputGainOf (C.liftPositionOf r) ⌝ }
 {
     let lift = floats::clamp((r - 8.0 / 15.0) / (7.0 / 15.0), 0.0, 1.0);
@@ -245,7 +243,7 @@ pub fn controls_of(bundle: &[u8], s: State) -> ControlCache
 // ---- what they read
 
 // The entries of refresh_filter_controls, in the Rust's order.
-fn judge_filter(bundle: &[u8], code: u16, resonance: u8) -> Answer
+pub fn judge_filter(bundle: &[u8], code: u16, resonance: u8) -> Answer
     ensures { λ r. ⌜ r ≡ J.judgeFilterOf (now (bundle .entry)) code resonance ⌝ }
 {
     let places = [
@@ -363,211 +361,5 @@ pub fn refresh(bundle: &[u8], s: State) -> Refreshed
     Refreshed {
         answer: answers::first(judge_filter(bundle, effective, registers.resonance), later),
         controls,
-    }
-}
-
-// ---- what a run keeps
-
-// The numbers of refresh_filter_controls that a sample reads beside the tables of the operating bins.
-#[repr(C)]
-pub struct CoreControls {
-    pub damping: f32,
-    pub source_gain_modulation: f32,
-    pub high_pass_low_coupling: f32,
-    pub band_pass_low_coupling: f32,
-    pub resonance_feedback_scale: f32,
-    pub source_modulation_resonance_scale: f32,
-    pub resonance_output_gain: f32,
-}
-
-// What a write of the cutoff or of the resonance changes for the samples that follow, and whether an entry of it is refused.
-pub struct CoreRefreshed {
-    pub answer: Answer,
-    pub integrator_gain: [f32; 16],
-    pub core: CoreControls,
-}
-
-pub fn core_controls(f: FilterControls) -> CoreControls
-    ensures { λ r. ⌜ r ≡ K.coreControlsOf f ⌝ }
-{
-    CoreControls {
-        damping: f.damping,
-        source_gain_modulation: f.source_gain_modulation,
-        high_pass_low_coupling: f.high_pass_low_coupling,
-        band_pass_low_coupling: f.band_pass_low_coupling,
-        resonance_feedback_scale: f.resonance_feedback_scale,
-        source_modulation_resonance_scale: f.source_modulation_resonance_scale,
-        resonance_output_gain: f.resonance_output_gain,
-    }
-}
-
-// The drives of the operating bins, the same at every cutoff and resonance.
-pub fn input_drives() -> [f32; 16]
-    ensures { λ r. ⌜ r ≡ K.inputDrives ⌝ }
-{
-    sixteen_of(constants::input_drive())
-}
-
-pub fn feedback_drives() -> [f32; 16]
-    ensures { λ r. ⌜ r ≡ K.feedbackDrives ⌝ }
-{
-    sixteen_of(constants::feedback_drive())
-}
-
-// Whether the sixteen gains are usable, by their words.
-fn usable_gains(words: [u32; 16]) -> bool
-    ensures { λ r. ⌜ r ≡ K.usableGainsOf words ⌝ }
-{
-    wire::usable(words[0])
-        & wire::usable(words[1])
-        & wire::usable(words[2])
-        & wire::usable(words[3])
-        & wire::usable(words[4])
-        & wire::usable(words[5])
-        & wire::usable(words[6])
-        & wire::usable(words[7])
-        & wire::usable(words[8])
-        & wire::usable(words[9])
-        & wire::usable(words[10])
-        & wire::usable(words[11])
-        & wire::usable(words[12])
-        & wire::usable(words[13])
-        & wire::usable(words[14])
-        & wire::usable(words[15])
-}
-
-// The sixteen gains of their words.
-fn gains_of(words: [u32; 16]) -> [f32; 16]
-    ensures { λ r. ⌜ r ≡ K.gainsOf words ⌝ }
-{
-    [
-        wire::f32_of(words[0]),
-        wire::f32_of(words[1]),
-        wire::f32_of(words[2]),
-        wire::f32_of(words[3]),
-        wire::f32_of(words[4]),
-        wire::f32_of(words[5]),
-        wire::f32_of(words[6]),
-        wire::f32_of(words[7]),
-        wire::f32_of(words[8]),
-        wire::f32_of(words[9]),
-        wire::f32_of(words[10]),
-        wire::f32_of(words[11]),
-        wire::f32_of(words[12]),
-        wire::f32_of(words[13]),
-        wire::f32_of(words[14]),
-        wire::f32_of(words[15]),
-    ]
-}
-
-// The entries are gone through one by one only where one of them is known to be unusable.
-fn judge_filter_if(unusable: bool, bundle: &[u8], code: u16, resonance: u8) -> Answer
-    ensures { λ r. ⌜ r ≡ K.judgeFilterIfOf unusable (now (bundle .entry)) code resonance ⌝ }
-{
-    if unusable {
-        return judge_filter(bundle, code, resonance);
-    }
-    Answer::Done
-}
-
-// `refresh_filter_controls`, each entry read once.
-pub fn refresh_core(bundle: &[u8], cutoff: u16, resonance: u8) -> CoreRefreshed
-    ensures { λ r. ⌜ r ≡ K.coreRefreshedOf (now (bundle .entry)) cutoff resonance ⌝ }
-{
-    let gains = wire::sixteen_at(bundle, bundle::integrator_gain_place(cutoff, resonance, 0));
-    let damping = wire::u32_at(bundle, bundle::damping_place(resonance) as usize);
-    let modulation = wire::u32_at(
-        bundle,
-        bundle::source_gain_modulation_place(cutoff) as usize,
-    );
-    let usable = usable_gains(gains) & wire::usable(damping) & wire::usable(modulation);
-    let position = floats::of_u16(cutoff);
-    let r = resonance_position(resonance);
-    CoreRefreshed {
-        answer: judge_filter_if(!usable, bundle, cutoff, resonance),
-        integrator_gain: gains_of(gains),
-        core: CoreControls {
-            damping: wire::f32_of(damping),
-            source_gain_modulation: wire::f32_of(modulation),
-            high_pass_low_coupling: high_pass_low_coupling(position),
-            band_pass_low_coupling: band_pass_low_coupling(position),
-            resonance_feedback_scale: feedback_scale(r),
-            source_modulation_resonance_scale: modulation_scale(r),
-            resonance_output_gain: resonance_output_gain(r),
-        },
-    }
-}
-
-// The highpass loading where the mode reads it, judged as it is read.
-fn read_loading(bundle: &[u8], m: u8, effective: u16) -> Read
-    ensures { λ r. ⌜ r ≡ K.readLoadingOf (now (bundle .entry)) m effective ⌝ }
-{
-    if m == 4 {
-        return bundle::read_entry(
-            Buffer::Bundle,
-            bundle,
-            bundle::highpass_loading_place(effective),
-        );
-    }
-    Read::Value(1.0)
-}
-
-// The loading curves at the written cutoff, judged as they are read.
-fn read_directional(bundle: &[u8], r: FilterRegisters) -> Read
-    ensures { λ g. ⌜ g ≡ K.readDirectionalOf (now (bundle .entry)) r ⌝ }
-{
-    let m = r.mode % 8;
-    if response::is_single_mode(m) {
-        let row = response::mode_index(m);
-        let place = bundle::directional_power_place(row, r.cutoff, r.cutoff_dac_displacement_codes);
-        let power = bundle::read_entry(Buffer::Bundle, bundle, place);
-        return match power {
-            Read::Refused(answer) => Read::Refused(answer),
-            Read::Value(x) => Read::Value(response::symmetric_gain(row as usize, r.cutoff) * x),
-        };
-    }
-    Read::Value(1.0)
-}
-
-// `refresh_mode_output_gain`, each entry judged as it is read.
-fn read_gain(bundle: &[u8], r: FilterRegisters, effective: u16) -> Read
-    ensures { λ g. ⌜ g ≡ K.readGainOf (now (bundle .entry)) r effective ⌝ }
-{
-    let loading = read_loading(bundle, r.mode % 8, effective);
-    match loading {
-        Read::Refused(answer) => Read::Refused(answer),
-        Read::Value(x) => {
-            let directional = read_directional(bundle, r);
-            match directional {
-                Read::Refused(answer) => Read::Refused(answer),
-                Read::Value(y) => Read::Value(
-                    response::filter_mode_output_gain(r.mode, r.resonance, effective, x) * y,
-                ),
-            }
-        }
-    }
-}
-
-// Whether the numbers of refresh_register_output_state are finite: those that follow from the volume alone always are.
-fn output_finite(r: FilterRegisters) -> bool
-    ensures { λ b. ⌜ b ≡ J.finiteOutputOf (C.outputControlsOf r) ⌝ }
-{
-    let common = response::filter_output_common_mode(r.mode, r.cutoff);
-    floats::is_finite(common) & floats::is_finite(common * (floats::of_u16(r.volume as u16) / 15.0))
-}
-
-// What a write of any register changes of the gain: its value, or the refusal of an entry or of a number that is not finite.
-pub fn refresh_gain(bundle: &[u8], r: FilterRegisters, effective: u16) -> Read
-    ensures { λ g. ⌜ g ≡ K.gainOf (now (bundle .entry)) r effective ⌝ }
-{
-    let read = read_gain(bundle, r, effective);
-    match read {
-        Read::Refused(answer) => Read::Refused(answer),
-        Read::Value(gain) => {
-            if floats::is_finite(gain) & output_finite(r) {
-                return Read::Value(gain);
-            }
-            Read::Refused(Answer::Domain)
-        }
     }
 }

@@ -19,8 +19,8 @@ use Rattle.control.specs.Block.{validOf}
 use Rattle.control.proofs.Valid.{Ranges, valid-ranges, low-valid, high-valid, routing-valid, mode-valid, starting-valid}
 use Rattle.controls.specs.Controls.{filterControlsOf, modeGainOf}
 use Rattle.controls.specs.Judging.{judgeFilterOf, judgeControlsOf}
-use Rattle.controls.specs.Kept.{judgeGainOf, gainOf}
-use Rattle.controls.proofs.Parts.{judged-by-parts}
+use Rattle.kept.specs.Kept.{judgeGainOf, gainOf}
+use Rattle.kept.proofs.Parts.{judged-by-parts}
 use Rattle.script.specs.declared.Event.{Event}
 use Rattle.script.specs.declared.Event.the-variants.{CutoffLow, CutoffHigh, Routing, Mode, Sample, Reset}
 use Rattle.filter.specs.Plain.{Plain, plainChange, plainStep}

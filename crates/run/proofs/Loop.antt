@@ -22,8 +22,8 @@ use Rattle.control.specs.Registers.{effectiveCutoffOf, startingState, writeCuto
 use Rattle.control.proofs.Valid.{Ranges, valid-ranges}
 use Rattle.controls.specs.declared.ControlCache.{ControlCache}
 use Rattle.controls.specs.Controls.{modeGainOf, filterControlsOf, controlsOf}
-use Rattle.controls.specs.Kept.{judgeGainOf}
-use Rattle.controls.proofs.Parts.{judged-by-parts}
+use Rattle.kept.specs.Kept.{judgeGainOf}
+use Rattle.kept.proofs.Parts.{judged-by-parts}
 use Rattle.bundle.specs.Reading.{readOf}
 use Rattle.mixing.specs.declared.MixingTopology.{MixingTopology}
 use Rattle.sample.specs.Kept.{restOf}

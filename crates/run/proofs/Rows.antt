@@ -19,7 +19,7 @@ use Rattle.sample.specs.declared.Sampled.the-variants.{Taken, Refused}
 use Rattle.sample.specs.Sample.{sampleOf}
 use Rattle.sample.specs.Kept.{cacheOf, restOf, sampleKeptOf}
 use Rattle.sample.proofs.Kept.{kept-is-sample}
-use Rattle.controls.specs.Kept.{inputDrives, feedbackDrives}
+use Rattle.kept.specs.Kept.{inputDrives, feedbackDrives}
 use Rattle.run.specs.declared.Parts.{Parts}
 use Rattle.run.specs.Parts.{cacheOfParts}
 use lib.Ieee.{Float}

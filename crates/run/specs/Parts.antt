@@ -13,7 +13,7 @@ use Rattle.control.specs.Registers.{startingState, effectiveCutoffOf, writeCuto
 use Rattle.controls.specs.declared.ControlCache.{ControlCache}
 use Rattle.controls.specs.Controls.{filterControlsOf}
 use Rattle.controls.specs.Judging.{judgeFilterOf}
-use Rattle.controls.specs.Kept.{coreControlsOf, inputDrives, feedbackDrives, gainOf}
+use Rattle.kept.specs.Kept.{coreControlsOf, inputDrives, feedbackDrives, gainOf}
 use Rattle.sample.specs.Kept.{cacheOf, restOf}
 use Rattle.script.specs.declared.Event.{Event}
 use Rattle.script.specs.declared.Event.the-variants.{CutoffLow, CutoffHigh, Routing, Mode, Sample, Reset}

@@ -9,7 +9,7 @@ ghost use Rattle.script.specs.Script.{allReadable, eventsIn, eventsOf, samplesO
 ghost use Rattle.script.proofs.Laws.{slicesFrom};
 ghost use Rattle.answers.specs.declared.Answer.the-variants.{Done};
 ghost use Rattle.control.specs.Registers.{effectiveCutoffOf};
-ghost use Rattle.controls.specs.Kept.{coreRefreshedOf};
+ghost use Rattle.kept.specs.Kept.{coreRefreshedOf};
 ghost use Rattle.filter.specs.Core.{freshTopologyOf, judgeLentOf};
 ghost use Rattle.sample.specs.Kept.{restOf};
 ghost use Rattle.control.specs.Block.{validOf};
@@ -20,9 +20,9 @@ ghost use Rattle.run.specs.Parts as P;
 use answers::Answer;
 use bundle::Read;
 use control::State;
-use controls::CoreControls;
-use controls::CoreRefreshed;
 use integrator::IntegratorState;
+use kept::CoreControls;
+use kept::CoreRefreshed;
 use mixing::MixingTopology;
 use sample::Outputs;
 use sample::Sampled;
@@ -136,14 +136,14 @@ fn gain_of(bundle: &[u8], state: State) -> Read
     ensures { λ r. ⌜ r ≡ P.stateGain (now (bundle .entry)) state ⌝ }
 {
     let registers = state.registers;
-    controls::refresh_gain(bundle, registers, state.effective_cutoff())
+    kept::refresh_gain(bundle, registers, state.effective_cutoff())
 }
 
 fn core_of(bundle: &[u8], state: State) -> CoreRefreshed
     ensures { λ r. ⌜ r ≡ coreRefreshedOf (now (bundle .entry)) (effectiveCutoffOf state) (state .registers .resonance) ⌝ }
 {
     let registers = state.registers;
-    controls::refresh_core(bundle, state.effective_cutoff(), registers.resonance)
+    kept::refresh_core(bundle, state.effective_cutoff(), registers.resonance)
 }
 
 fn topology_of(state: State) -> MixingTopology
@@ -305,8 +305,8 @@ fn play_samples(
     let gains = parts.gains;
     let core = parts.core;
     let rest = parts.rest;
-    let input_drives = controls::input_drives();
-    let feedback_drives = controls::feedback_drives();
+    let input_drives = kept::input_drives();
+    let feedback_drives = kept::feedback_drives();
     let mut integrator = from;
     let mut samples = before;
     let mut i = start;

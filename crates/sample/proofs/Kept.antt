@@ -19,8 +19,8 @@ use Rattle.bundle.specs.Opening.{judgePlacesOf}
 use Rattle.bundle.specs.Reading.{readOf}
 use Rattle.curves.specs.Sampling.{sampleCurveOf, sampleCurvePlacesOf, restingOutputOf, restingPlacesOf}
 use Rattle.controls.specs.declared.ControlCache.{ControlCache}
-use Rattle.controls.specs.declared.CoreControls.{CoreControls}
-use Rattle.controls.specs.Kept.{coreControlsOf}
+use Rattle.kept.specs.declared.CoreControls.{CoreControls}
+use Rattle.kept.specs.Kept.{coreControlsOf}
 use Rattle.sample.specs.declared.Fed.{Fed}
 use Rattle.sample.specs.declared.Fed.the-variants.{Idle, Level, Refused as Unfed}
 use Rattle.sample.specs.declared.Sampled.{Sampled}

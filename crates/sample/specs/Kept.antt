@@ -19,7 +19,7 @@ use Rattle.bundle.specs.Reading.{readOf}
 use Rattle.curves.specs.Sampling.{sampleCurveOf, sampleCurvePlacesOf, restingOutputOf, restingPlacesOf}
 use Rattle.controls.specs.declared.FilterControls.{FilterControls}
 use Rattle.controls.specs.declared.ControlCache.{ControlCache}
-use Rattle.controls.specs.declared.CoreControls.{CoreControls}
+use Rattle.kept.specs.declared.CoreControls.{CoreControls}
 use Rattle.sample.specs.declared.Fed.{Fed}
 use Rattle.sample.specs.declared.Fed.the-variants.{Idle, Level, Refused as Unfed}
 use Rattle.sample.specs.declared.Sampled.{Sampled}

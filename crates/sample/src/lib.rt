@@ -7,11 +7,11 @@ ghost use Rattle.sample.specs.Kept as K;
 use answers::Answer;
 use bundle::Read;
 use controls::ControlCache;
-use controls::CoreControls;
 use integrator::Coefficients;
 use integrator::FilterOutputs;
 use integrator::IntegratorState;
 use integrator::Substeps;
+use kept::CoreControls;
 use mixing::MixingTopology;
 use response::TablePosition;
 
@@ -371,7 +371,7 @@ pub fn sample(
         &gains,
         &input_drives,
         &feedback_drives,
-        controls::core_controls(f),
+        kept::core_controls(f),
         controls.mode_output_gain,
         rest_of(bundle, topology),
         mode,

@@ -1,4 +1,4 @@
-use Rattle.controls.specs.Kept.{coreRefreshedOf}
+use Rattle.kept.specs.Kept.{coreRefreshedOf}
 use Rattle.run.specs.Parts.{partsOf}
 use borrow.Author.Needs.{needs}
 use Rattle.run.proofs.work_out.Statement.{statement}
