@@ -15,7 +15,7 @@ mod song;
 
 use show::{bundle_bytes, grouped, progress, progress_done};
 use sid_filter::{pieces, run, samples, Bundle, Curves, State};
-use song::{Desk, Tick, BAR, BARS, RATE, SILENT_BARS};
+use song::{Desk, Tick, BAR, BARS, RATE};
 use std::error::Error;
 use std::f64::consts::PI;
 use std::process::ExitCode;
@@ -82,7 +82,7 @@ fn render(path: &str) -> Result<bool, Box<dyn Error>> {
     println!("   brought down from {} Hz by a sinc of {TAPS} taps under a Blackman window", grouped(RATE as usize));
     println!("   peak {:.1} dB, RMS {:.1} dB of full scale, {} samples clipped", decibels(peak(&wave)), decibels(rms(&wave)), clipped);
     let mut right = clipped == 0;
-    for bar in SILENT_BARS {
+    for bar in song::silent_bars() {
         let settled = &wave[(bar as usize - 1) * OUT_BAR..][SETTLED];
         println!(
             "   bar {bar}, all muted: the highest of {} samples from 200 ms on is {}",

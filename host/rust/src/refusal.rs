@@ -60,7 +60,7 @@ impl Refusal {
         }
     }
 
-    /// The cause as the table words it.
+    /// The cause as the table words it (6 without the word that points to the text above the table).
     pub fn sentence(self) -> &'static str {
         match self {
             Refusal::BundleLength => "bundle not 6,127,736 bytes",

@@ -14,8 +14,6 @@ pub const RATE: u32 = 985_248;
 pub const BARS: u32 = 48;
 /// Samples a bar.
 pub const BAR: u32 = RATE / 2;
-/// The bars in which nobody plays.
-pub const SILENT_BARS: [u32; 2] = [31, 48];
 /// Frames a bar, and samples a frame.
 const FRAMES: u32 = 24;
 const FRAME: u32 = BAR / FRAMES;
@@ -90,6 +88,11 @@ pub fn bar(number: u32, desk: Desk) -> impl Iterator<Item = Tick> {
         let frame = Frame::new(number, frame, desk);
         frame.writes().into_iter().flatten().chain((0..FRAME).map(move |sample| frame.sample(sample)))
     })
+}
+
+/// The bars in which nobody plays.
+pub fn silent_bars() -> impl Iterator<Item = u32> {
+    (1..=BARS).filter(|bar| part_of(*bar).0.plays == 0)
 }
 
 /// The part that a bar lies in, and the first bar after it.
