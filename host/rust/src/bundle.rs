@@ -1,5 +1,6 @@
 use crate::library;
 use crate::Refusal;
+use std::fmt;
 
 /// The length of a bundle in bytes.
 pub const BUNDLE_BYTES: usize = 6_127_736;
@@ -29,6 +30,13 @@ impl<'a> Bundle<'a> {
     /// The bytes that were opened.
     pub fn as_bytes(&self) -> &'a [u8] {
         self.bytes
+    }
+}
+
+impl fmt::Debug for Bundle<'_> {
+    /// The name alone, not the bytes.
+    fn fmt(&self, f: &mut fmt::Formatter) -> fmt::Result {
+        f.debug_struct("Bundle").finish_non_exhaustive()
     }
 }
 
@@ -67,5 +75,12 @@ impl Curves {
     pub fn curve(&self, index: usize) -> impl Iterator<Item = f32> + '_ {
         let entries = self.bytes.chunks_exact(4).skip(index.saturating_mul(Curves::ENTRIES)).take(Curves::ENTRIES);
         entries.map(|entry| f32::from_le_bytes([entry[0], entry[1], entry[2], entry[3]]))
+    }
+}
+
+impl fmt::Debug for Curves {
+    /// The name alone, not the bytes.
+    fn fmt(&self, f: &mut fmt::Formatter) -> fmt::Result {
+        f.debug_struct("Curves").finish_non_exhaustive()
     }
 }
