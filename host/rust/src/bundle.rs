@@ -1,0 +1,86 @@
+use crate::library;
+use crate::Refusal;
+use std::fmt;
+
+/// The length of a bundle in bytes.
+pub const BUNDLE_BYTES: usize = 6_127_736;
+/// The length of the curves in bytes: 31 curves of 2,049 f32.
+pub const CURVES_BYTES: usize = 254_076;
+
+/// The tables of the filter: bytes that were opened, so that the header is the fixed one and every entry usable.
+#[derive(Clone, Copy)]
+pub struct Bundle<'a> {
+    bytes: &'a [u8],
+}
+
+impl<'a> Bundle<'a> {
+    /// Opens a bundle: looks at its length (1), its header (2) and every entry in order (3).
+    ///
+    /// ```
+    /// use sid_filter::{Bundle, Refusal};
+    /// assert_eq!(Bundle::open(b"no bundle").err(), Some(Refusal::BundleLength));
+    /// ```
+    pub fn open(bytes: &'a [u8]) -> Result<Bundle<'a>, Refusal> {
+        match Refusal::of(library::open(bytes)) {
+            None => Ok(Bundle { bytes }),
+            Some(refusal) => Err(refusal),
+        }
+    }
+
+    /// The bytes that were opened.
+    pub fn as_bytes(&self) -> &'a [u8] {
+        self.bytes
+    }
+}
+
+impl fmt::Debug for Bundle<'_> {
+    /// The name alone, not the bytes.
+    fn fmt(&self, f: &mut fmt::Formatter) -> fmt::Result {
+        f.debug_struct("Bundle").finish_non_exhaustive()
+    }
+}
+
+/// The 31 transfer curves of a bundle: summer 0 to 6, mixer 7 to 14, volume 15 to 30.
+#[derive(Clone, PartialEq, Eq)]
+pub struct Curves {
+    bytes: Box<[u8]>,
+}
+
+impl Curves {
+    /// How many curves there are.
+    pub const COUNT: usize = 31;
+    /// The entries of a curve; the last one repeats the one before it.
+    pub const ENTRIES: usize = 2_049;
+
+    /// Builds the curves of a bundle. The library looks at the entries of the analogue surface again (3); an opened bundle passes.
+    pub fn build(bundle: &Bundle) -> Result<Curves, Refusal> {
+        let mut bytes = vec![0; CURVES_BYTES].into_boxed_slice();
+        match Refusal::of(library::build_curves(bundle.bytes, &mut bytes)) {
+            None => Ok(Curves { bytes }),
+            Some(refusal) => Err(refusal),
+        }
+    }
+
+    /// Curves that were kept as bytes. A run judges their length (4) and each entry that it reads (3).
+    pub fn from_bytes(bytes: impl Into<Box<[u8]>>) -> Curves {
+        Curves { bytes: bytes.into() }
+    }
+
+    /// The bytes: little-endian f32, one curve after another.
+    pub fn as_bytes(&self) -> &[u8] {
+        &self.bytes
+    }
+
+    /// The entries of one curve; none of a curve that is not there.
+    pub fn curve(&self, index: usize) -> impl Iterator<Item = f32> + '_ {
+        let entries = self.bytes.chunks_exact(4).skip(index.saturating_mul(Curves::ENTRIES)).take(Curves::ENTRIES);
+        entries.map(|entry| f32::from_le_bytes([entry[0], entry[1], entry[2], entry[3]]))
+    }
+}
+
+impl fmt::Debug for Curves {
+    /// The name alone, not the bytes.
+    fn fmt(&self, f: &mut fmt::Formatter) -> fmt::Result {
+        f.debug_struct("Curves").finish_non_exhaustive()
+    }
+}

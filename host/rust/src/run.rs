@@ -1,0 +1,88 @@
+use crate::library;
+use crate::{Bundle, Curves, Refusal, Script, State};
+use std::fmt;
+
+/// The length of a sample's output in bytes.
+pub const SAMPLE_BYTES: usize = 16;
+
+/// A run that went through.
+#[derive(Clone, Copy, Debug, PartialEq, Eq)]
+pub struct Done {
+    /// The events done: all.
+    pub events: usize,
+    /// The samples written.
+    pub samples: usize,
+}
+
+/// A run that was refused at its start or stopped at an event. The samples before the stop are written, the state is the one before the
+/// stopped event, and later output bytes are as they were.
+#[derive(Clone, Copy, Debug, PartialEq, Eq)]
+pub struct Stop {
+    /// The cause.
+    pub refusal: Refusal,
+    /// The events done before it, which is also the place of the stopped event.
+    pub events: usize,
+    /// The samples written before it.
+    pub samples: usize,
+}
+
+impl fmt::Display for Stop {
+    fn fmt(&self, f: &mut fmt::Formatter) -> fmt::Result {
+        write!(f, "stopped after {} events and {} samples: {}", self.events, self.samples, self.refusal)
+    }
+}
+
+impl std::error::Error for Stop {
+    fn source(&self) -> Option<&(dyn std::error::Error + 'static)> {
+        Some(&self.refusal)
+    }
+}
+
+/// What a sample gives.
+#[derive(Clone, Copy, Debug, PartialEq)]
+pub struct Sample {
+    /// The high-pass output.
+    pub high: f32,
+    /// The band-pass output.
+    pub band: f32,
+    /// The low-pass output.
+    pub low: f32,
+    /// What the mode selects of the three, with its gain, around its level at rest.
+    pub selected: f32,
+}
+
+impl Sample {
+    /// Reads a sample of an output.
+    pub fn from_bytes(bytes: &[u8; SAMPLE_BYTES]) -> Sample {
+        let float = |place: usize| f32::from_le_bytes([bytes[place], bytes[place + 1], bytes[place + 2], bytes[place + 3]]);
+        Sample { high: float(0), band: float(4), low: float(8), selected: float(12) }
+    }
+}
+
+/// The samples of an output, one for each 16 bytes.
+pub fn samples(output: &[u8]) -> impl ExactSizeIterator<Item = Sample> + '_ {
+    output.chunks_exact(SAMPLE_BYTES).map(|chunk| {
+        let mut bytes = [0; SAMPLE_BYTES];
+        bytes.copy_from_slice(chunk);
+        Sample::from_bytes(&bytes)
+    })
+}
+
+/// Runs a script from and into a state, and writes 16 bytes a sample to the front of the output.
+///
+/// Refused before the first event are curves of another length (4), an invalid state (10), an output shorter than
+/// [`Script::output_bytes`] (8), and entries (3) or controls (6) that the state leads to; at an event a sum or energy that is not finite
+/// (5), an entry (3) and a number that would not be finite (6).
+pub fn run(bundle: &Bundle, curves: &Curves, state: &mut State, script: &Script, output: &mut [u8]) -> Result<Done, Stop> {
+    run_bytes(bundle, curves, state, script.as_bytes(), output)
+}
+
+/// Runs a script that was kept as bytes. Bytes that are no script are refused with 7, after the state and before the output.
+pub fn run_bytes(bundle: &Bundle, curves: &Curves, state: &mut State, script: &[u8], output: &mut [u8]) -> Result<Done, Stop> {
+    let answer = library::run(bundle.as_bytes(), curves.as_bytes(), state.bytes_mut(), script, output);
+    let (events, samples) = (answer.events as usize, answer.samples as usize);
+    match Refusal::of(answer) {
+        None => Ok(Done { events, samples }),
+        Some(refusal) => Err(Stop { refusal, events, samples }),
+    }
+}

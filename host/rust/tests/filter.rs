@@ -1,0 +1,304 @@
+//! The package on the repository's bundle: opening, building, running, cutting, and each refusal that its calls can reach.
+use sid_filter::*;
+use std::sync::OnceLock;
+
+const DATA: &str = concat!(env!("CARGO_MANIFEST_DIR"), "/../../crates/vectors_surface/data/");
+/// Where the surface's first entry begins in the bundle.
+const SURFACE: usize = 2_105_464;
+
+fn bytes() -> &'static [u8] {
+    static BYTES: OnceLock<Vec<u8>> = OnceLock::new();
+    BYTES.get_or_init(|| data("bundle.bin"))
+}
+
+fn data(name: &str) -> Vec<u8> {
+    std::fs::read([DATA, name].concat()).expect("a file of the repository")
+}
+
+fn bundle() -> Bundle<'static> {
+    Bundle::open(bytes()).expect("a whole bundle")
+}
+
+fn curves() -> &'static Curves {
+    static CURVES: OnceLock<Curves> = OnceLock::new();
+    CURVES.get_or_init(|| Curves::build(&bundle()).expect("curves of an opened bundle"))
+}
+
+fn sample(input_sum: f32, source_energy: f32) -> Event {
+    Event::Sample { input_sum, source_energy }
+}
+
+/// Writes of every kind with a reset among them, and a sample or more after each.
+fn song() -> Vec<Event> {
+    vec![
+        Event::Routing(0xf3),
+        Event::Mode(0x1f),
+        sample(0.9, 0.0),
+        Event::CutoffLow(7),
+        sample(1.1, 0.02),
+        Event::CutoffHigh(60),
+        sample(0.8, 0.01),
+        sample(1.0, 0.01),
+        Event::CutoffLow(3),
+        Event::CutoffLow(5),
+        Event::CutoffHigh(200),
+        sample(0.7, 0.04),
+        Event::Mode(0x6f),
+        sample(1.2, 0.04),
+        Event::Routing(0x81),
+        sample(0.5, 0.0),
+        Event::Reset,
+        sample(0.0, 0.0),
+        Event::Routing(0x24),
+        Event::Mode(0xc8),
+        sample(0.6, 0.03),
+        sample(0.3, 0.03),
+    ]
+}
+
+/// Runs one script from a state: what it answers, the state after it, and the output.
+fn run_from(mut state: State, script: &Script) -> (Result<Done, Stop>, State, Vec<u8>) {
+    let mut output = vec![0xaa; script.output_bytes()];
+    let answer = run(&bundle(), curves(), &mut state, script, &mut output);
+    (answer, state, output)
+}
+
+/// A state whose bytes from a place on are others.
+fn state_with(place: usize, bytes: &[u8]) -> State {
+    let mut block = *State::start().as_bytes();
+    block[place..place + bytes.len()].copy_from_slice(bytes);
+    State::from_bytes(block)
+}
+
+#[test]
+fn the_bundle_opens() {
+    assert_eq!(bytes().len(), BUNDLE_BYTES);
+    assert_eq!(bundle().as_bytes(), bytes());
+}
+
+#[test]
+fn a_damaged_bundle_is_refused() {
+    assert_eq!(Bundle::open(&[]).err(), Some(Refusal::BundleLength));
+    assert_eq!(Bundle::open(&bytes()[1..]).err(), Some(Refusal::BundleLength));
+    let mut damaged = bytes().to_vec();
+    damaged[SURFACE + 40..SURFACE + 44].copy_from_slice(&1024.5_f32.to_le_bytes());
+    let entry = Refusal::Entry { buffer: Buffer::Bundle, place: SURFACE as u32 + 40 };
+    assert_eq!(Bundle::open(&damaged).err(), Some(entry));
+    damaged[60..64].copy_from_slice(&f32::NAN.to_le_bytes());
+    assert_eq!(Bundle::open(&damaged).err(), Some(Refusal::Entry { buffer: Buffer::Bundle, place: 60 }));
+    damaged[5] = 1;
+    assert_eq!(Bundle::open(&damaged).err(), Some(Refusal::Header { place: 5 }));
+}
+
+#[test]
+fn the_curves_are_built() {
+    assert_eq!(curves().as_bytes().len(), CURVES_BYTES);
+    for index in 0..Curves::COUNT {
+        let curve: Vec<f32> = curves().curve(index).collect();
+        assert_eq!(curve.len(), Curves::ENTRIES);
+        assert_eq!(curve[2_048], curve[2_047], "curve {index}");
+        assert!(curve.iter().all(|entry| entry.abs() <= 1_024.0), "curve {index}");
+    }
+    assert_eq!(curves().curve(Curves::COUNT).count(), 0);
+}
+
+/// The file has a record for each entry: its number and its bits, as the Rust of which the library is a port gave them.
+#[test]
+fn the_curves_are_those_of_the_file() {
+    let entries =
+        curves().as_bytes().chunks_exact(4).enumerate().flat_map(|(number, entry)| [&(number as u32).to_le_bytes()[..], entry].concat());
+    assert!(entries.eq(data("curves.bin")));
+}
+
+#[test]
+fn no_event_leaves_everything() {
+    for state in [State::start(), run_from(State::start(), &Script::of(&song()).unwrap()).1] {
+        let mut after = state;
+        let mut output = [0xaa; 32];
+        let done = run(&bundle(), curves(), &mut after, &Script::new(), &mut output);
+        assert_eq!(done, Ok(Done { events: 0, samples: 0 }));
+        assert_eq!((after, output), (state, [0xaa; 32]));
+    }
+}
+
+#[test]
+fn the_writes_are_those_of_the_cases() {
+    let after = |events: &[Event]| run_from(State::start(), &Script::of(events).unwrap()).1;
+    let state = after(&[Event::CutoffLow(7), Event::CutoffHigh(1)]);
+    assert_eq!((state.cutoff(), state.displacement(), state.pending()), (15, 13, false));
+    let state = after(&[Event::CutoffLow(7), Event::CutoffLow(3), Event::CutoffHigh(1)]);
+    assert_eq!((state.cutoff(), state.displacement(), state.write_base()), (11, 3, 7));
+    let state = after(&[Event::CutoffLow(7), Event::Routing(0xf5), Event::Mode(0x9c)]);
+    assert_eq!((state.pending(), state.resonance(), state.routing(), state.mode(), state.volume()), (true, 15, 5, 9, 12));
+    assert_eq!(after(&[Event::CutoffHigh(9), Event::Mode(0xff), Event::Reset]), State::start());
+}
+
+#[test]
+fn cut_equals_uncut() {
+    let events = song();
+    let whole = Script::of(&events).unwrap();
+    let (answer, state, output) = run_from(State::start(), &whole);
+    assert_eq!(answer, Ok(Done { events: 22, samples: 10 }));
+    assert!(samples(&output).all(|s| s.high.is_finite() && s.selected.is_finite()));
+    for first in 0..=events.len() {
+        for second in first..=events.len() {
+            let mut piece_state = State::start();
+            let mut joined = Vec::new();
+            for piece in [&events[..first], &events[first..second], &events[second..]] {
+                let (answer, after, output) = run_from(piece_state, &Script::of(piece).unwrap());
+                assert_eq!(answer.map(|done| done.events), Ok(piece.len()));
+                piece_state = after;
+                joined.extend(output);
+            }
+            assert!(joined == output && piece_state == state, "cut at {first} and {second}");
+        }
+    }
+}
+
+#[test]
+fn a_long_list_goes_in_pieces() {
+    let events =
+        || (0..150_000).map(|i| if i % 1_000 == 0 { Event::CutoffHigh((i / 1_000) as u8) } else { sample((i % 7) as f32 / 7.0, 0.01) });
+    let mut state = State::start();
+    let (mut done_events, mut done_samples) = (0, 0);
+    for script in pieces(events()) {
+        assert!(script.len() <= EVENTS_MAX);
+        let (answer, after, _) = run_from(state, &script);
+        let done = answer.unwrap();
+        (done_events, done_samples) = (done_events + done.events, done_samples + done.samples);
+        state = after;
+    }
+    assert_eq!((done_events, done_samples), (150_000, 149_850));
+    assert_eq!(state.cutoff(), 149 * 8);
+}
+
+#[test]
+fn a_script_holds_65_536_events() {
+    let mut script = Script::new();
+    for _ in 0..EVENTS_MAX {
+        script.push(Event::CutoffLow(1)).unwrap();
+    }
+    assert_eq!(script.push(Event::Reset), Err(Full));
+    assert_eq!((script.len(), script.as_bytes().len()), (EVENTS_MAX, SCRIPT_HEADER_BYTES + EVENTS_MAX * EVENT_BYTES));
+    assert_eq!(run_from(State::start(), &script).0, Ok(Done { events: EVENTS_MAX, samples: 0 }));
+    script.clear();
+    assert_eq!(script, Script::new());
+}
+
+#[test]
+fn an_event_has_its_bytes() {
+    assert_eq!(Event::CutoffHigh(0x80).to_bytes(), [1, 0x80, 0, 0, 0, 0, 0, 0, 0, 0, 0, 0]);
+    assert_eq!(sample(1.0, -2.0).to_bytes(), [4, 0, 0, 0, 0, 0, 0x80, 0x3f, 0, 0, 0, 0xc0]);
+    assert_eq!(Event::Reset.to_bytes(), [5, 0, 0, 0, 0, 0, 0, 0, 0, 0, 0, 0]);
+}
+
+#[test]
+fn refusal_3_of_the_curves() {
+    let mut damaged = curves().as_bytes().to_vec();
+    for entry in damaged.chunks_exact_mut(4) {
+        entry.copy_from_slice(&f32::INFINITY.to_le_bytes());
+    }
+    let mut state = State::start();
+    let mut output = [0xaa; 32];
+    let script = Script::of(&[Event::Mode(0x1f), sample(0.0, 0.0), Event::Routing(0x01), sample(0.0, 0.0)]).unwrap();
+    let stop = run(&bundle(), &Curves::from_bytes(damaged), &mut state, &script, &mut output).unwrap_err();
+    assert_eq!((stop.events, stop.samples), (3, 1));
+    let Refusal::Entry { buffer: Buffer::Curves, place } = stop.refusal else { panic!("{stop}") };
+    assert_eq!(place as usize / (4 * Curves::ENTRIES), 3, "curve 3 is the summer's with one voice");
+}
+
+#[test]
+fn refusal_4() {
+    let short = Curves::from_bytes(&curves().as_bytes()[4..]);
+    let stop = run(&bundle(), &short, &mut State::start(), &Script::new(), &mut []).unwrap_err();
+    assert_eq!(stop, Stop { refusal: Refusal::CurvesLength, events: 0, samples: 0 });
+}
+
+#[test]
+fn refusal_5_stops_at_its_event() {
+    let mut events = song();
+    events[7] = sample(f32::INFINITY, 0.0);
+    let (answer, state, output) = run_from(State::start(), &Script::of(&events).unwrap());
+    assert_eq!(answer, Err(Stop { refusal: Refusal::InputNotFinite, events: 7, samples: 3 }));
+    let (_, before, written) = run_from(State::start(), &Script::of(&events[..7]).unwrap());
+    assert_eq!(state, before);
+    assert_eq!(output[..48], written[..]);
+    assert!(output[48..].iter().all(|byte| *byte == 0xaa));
+    events[7] = sample(0.0, f32::NAN);
+    assert_eq!(run_from(State::start(), &Script::of(&events).unwrap()).0.unwrap_err().refusal.number(), 5);
+}
+
+#[test]
+fn refusal_6() {
+    let state = state_with(12, &f32::MAX.to_le_bytes());
+    let (answer, after, _) = run_from(state, &Script::of(&[Event::Routing(1), sample(0.5, 0.0)]).unwrap());
+    assert_eq!(answer, Err(Stop { refusal: Refusal::Domain, events: 1, samples: 0 }));
+    assert_eq!(after.band(), f32::MAX);
+}
+
+#[test]
+fn refusal_7() {
+    let whole = Script::of(&song()).unwrap();
+    let refused = |script: &[u8]| {
+        let mut state = State::start();
+        let stop = run_bytes(&bundle(), curves(), &mut state, script, &mut [0; 160]).unwrap_err();
+        assert_eq!((stop.refusal, stop.events, stop.samples, state), (Refusal::Script, 0, 0, State::start()));
+    };
+    refused(&[]);
+    refused(&whole.as_bytes()[..whole.as_bytes().len() - 1]);
+    for (place, byte) in [(0, 21), (4, 9), (8, 6), (10, 1)] {
+        let mut damaged = whole.as_bytes().to_vec();
+        damaged[place] = byte;
+        refused(&damaged);
+    }
+}
+
+#[test]
+fn refusal_8() {
+    let script = Script::of(&song()).unwrap();
+    let mut state = State::start();
+    let mut output = vec![0xaa; script.output_bytes() - 1];
+    let stop = run(&bundle(), curves(), &mut state, &script, &mut output).unwrap_err();
+    assert_eq!(stop, Stop { refusal: Refusal::OutputLength, events: 0, samples: 0 });
+    assert_eq!(state, State::start());
+    assert!(output.iter().all(|byte| *byte == 0xaa));
+}
+
+#[test]
+fn refusal_10() {
+    let invalid: [(usize, &[u8]); 8] = [
+        (0, &[0, 8]),
+        (2, &[58, 0]),
+        (4, &[0, 8]),
+        (6, &[2]),
+        (7, &[16]),
+        (11, &[1]),
+        (16, &[0, 0, 0x80, 0x7f]),
+        (20, &[0, 0, 0xc0, 0x7f]),
+    ];
+    for (place, bytes) in invalid {
+        let state = state_with(place, bytes);
+        let (answer, after, _) = run_from(state, &Script::of(&song()).unwrap());
+        assert_eq!(answer, Err(Stop { refusal: Refusal::Argument, events: 0, samples: 0 }), "byte {place}");
+        assert_eq!(after, state);
+    }
+}
+
+#[test]
+fn a_stop_says_what_was_done() {
+    let script = Script::of(&[sample(0.0, 0.0), sample(f32::NAN, 0.0)]).unwrap();
+    let stop = run_from(State::start(), &script).0.unwrap_err();
+    assert_eq!(stop.to_string(), "stopped after 1 events and 1 samples: input sum or source energy not finite");
+    assert!(std::error::Error::source(&stop).is_some());
+}
+
+#[test]
+fn a_state_is_its_bytes() {
+    let state = run_from(State::start(), &Script::of(&song()[..12]).unwrap()).1;
+    let again = State::from_bytes(*state.as_bytes());
+    assert_eq!(again, state);
+    assert_ne!(again, State::start());
+    assert_eq!(State::default().as_bytes(), &[0; STATE_BYTES]);
+    assert_eq!((state.cutoff(), state.resonance(), state.routing(), state.mode(), state.volume()), (1_605, 15, 3, 1, 15));
+    assert!(state.low() != 0.0 && state.source_energy() > 0.0);
+}
