@@ -51,13 +51,12 @@ use Rattle.filter.proofs.Demand3.{refuses, sample-refuses, sample-plain}
 use Rattle.run.specs.declared.Row.{Row}
 use Rattle.run.specs.declared.Played.{Played}
 use Rattle.run.specs.Run.{Ran, stopped, went, playOf, sampleBytes}
-use Rattle.run.specs.Rows.{Samples, askedOf, noSamples, oneMore, rowOn, rowOf, rowEnd, playEnd}
+use Rattle.run.specs.Rows.{Samples, Moves, askedOf, noSamples, oneMore, rowOn, rowOf, movesOf, rowEnd, movesEnd, playEnd}
 use Rattle.run.proofs.Bytes.{length-outputs, outputs-append}
 use Rattle.run.specs.declared.Asked.{Asked}
-use Rattle.run.specs.declared.Parts.{Parts}
-use Rattle.run.specs.declared.Changed.{Changed}
-use Rattle.run.specs.Parts.{gainValue, stateGain, partsOf, changeOf, cacheOfParts}
-use Rattle.run.proofs.Changes.{Stepped, change-steps}
+use Rattle.run.specs.declared.Moved.{Moved}
+use Rattle.run.specs.Parts.{gainValue, stateGain, partsOf, cacheOfParts, keptRowOf}
+use Rattle.run.proofs.Moves.{MovesLaw, moves-law, moves-some}
 use Rattle.run.proofs.Cutting.{Good, good-step}
 
 -- ---- the events left
@@ -387,57 +386,63 @@ module _ (bundle curves script : List ℕ) (count : ℕ) (s₀ : State) (out₀ 
         let is : playOf bundle curves s (remaining i) ≡ record { answer = row .answer; events = row .events; samples = row .outputs; state = withIntegrator s (row .integrator) } = law .same ∙ rw d refl in
         (sym (ap (playEnd i samples) is) ∙ far .ends, sym (ap (λ (r : Ran). putAt out (16 * samples) (sampleBytes (r .samples))) is) ∙ far .puts)
 
-    -- one event that is no sample
-    module _ (e : Event) (more : i < count) (is : eventAt script (8 + 12 * i) ≡ Readable e) (other : askedOf e .sample ≡ false) where
-      abbrev step : Plain
-      step = plainStep bundle curves s e
+    -- the other events in a row from here
+    abbrev moves : Moves
+    moves = movesOf bundle s (remaining i)
 
-      next : remaining i ≡ e ∷ remaining (i + 1)
-      next = events-next script count i more e is
+    moves-are : MovesLaw bundle curves lent s (remaining i) moves
+    moves-are = moves-law bundle curves lent s (remaining i) (far .good)
 
-      pub event-done : isDoneOf (step .answer) ≡ true → Sofar out (step .state) samples (i + 1)
-      unfolding playOf samplesOf
-      event-done d =
-          let r = playOf bundle curves (step .state) (remaining (i + 1)) in
-          let same : playOf bundle curves s (remaining i) ≡ record { answer = r .answer; events = suc (r .events); samples = r .samples; state = r .state } = ap (playOf bundle curves s) next ∙ rw (d, no-sample bundle curves s e other) refl in
-          let few = far .few in
-          let room = far .room in
-          let counts : samplesOf (remaining i) ≡ S.sampleOf e + samplesOf (remaining (i + 1)) = ap samplesOf next in
-          let events : i + suc (r .events) ≡ i + 1 + r .events = omega arith in
-          record {
-            within = omega arith;
-            few = omega arith;
-            readable = sym (all-next script count i more e is) ∙ far .readable;
-            good = good-step bundle curves lent s e (far .good);
-            long = far .long;
-            room = omega arith;
-            ends = sym (ap (playEnd i samples) same ∙ rw events refl) ∙ far .ends;
-            puts = sym (ap (λ (x : Ran). putAt out (16 * samples) (sampleBytes (x .samples))) same) ∙ far .puts;
-          }
+    moves-within : i + moves .events ≤ count
+    moves-within =
+        let w = moves-are .within in
+        let l = length-left script count i (far .readable) in
+        let k = far .within in
+        omega arith
 
-      pub event-stopped : isDoneOf (step .answer) ≡ false → Finished (step .answer) i samples s out
-      unfolding playOf
-      event-stopped d = finishes (step .answer) i samples s out (playOf bundle curves s (remaining i)) (ap (playOf bundle curves s) next ∙ rw d refl) (far .ends) (far .puts)
+    onward : (allReadable (slicesFrom script count (i + moves .events)) ≡ true) × (drop (moves .events) (remaining i) ≡ remaining (i + moves .events))
+    onward = later script count (moves .events) i moves-within (far .readable)
+
+    pub moves-done : isDoneOf (moves .answer) ≡ true → Sofar out (moves .state) samples (i + moves .events)
+    moves-done d =
+        let r = playOf bundle curves (moves .state) (remaining (i + moves .events)) in
+        let same : playOf bundle curves s (remaining i) ≡ record { answer = r .answer; events = moves .events + r .events; samples = r .samples; state = r .state } = moves-are .same ∙ rw (d, onward .1) refl in
+        let few = far .few in
+        let room = far .room in
+        let counts : samplesOf (remaining i) ≡ samplesOf (remaining (i + moves .events)) = moves-are .rest ∙ ap samplesOf (onward .1) in
+        let events : i + (moves .events + r .events) ≡ i + moves .events + r .events = omega arith in
+        record {
+          within = moves-within;
+          few = omega arith;
+          readable = onward .0;
+          good = moves-are .good;
+          long = far .long;
+          room = omega arith;
+          ends = sym (ap (playEnd i samples) same ∙ rw events refl) ∙ far .ends;
+          puts = sym (ap (λ (x : Ran). putAt out (16 * samples) (sampleBytes (x .samples))) same) ∙ far .puts;
+        }
+
+    pub moves-stopped : isDoneOf (moves .answer) ≡ false → Finished (moves .answer) (i + moves .events) samples (moves .state) out
+    unfolding sampleBytes
+    moves-stopped d =
+        let is : playOf bundle curves s (remaining i) ≡ record { answer = moves .answer; events = moves .events; samples = []; state = moves .state } = moves-are .same ∙ rw d refl in (
+          sym (ap (playEnd i samples) is ∙ rw (add-zero samples) refl) ∙ far .ends,
+          sym (ap (λ (r : Ran). putAt out (16 * samples) (sampleBytes (r .samples))) is ∙ putAt-nil out (16 * samples)) ∙ far .puts,
+        )
 
     pub readable-here : i < count → eventAt script (8 + 12 * i) ≡ Unreadable → ⊥
     readable-here more h = true≢false (sym (far .readable) ∙ all-stop script count i more h)
 
   -- ---- as the code has it
 
-  -- what is kept stays while only the integrator moves
-  parts-stay : (s : State) (j : IntegratorState) → partsOf bundle (withIntegrator s j) ≡ partsOf bundle s
-  unfolding partsOf
-  parts-stay s j = refl
-
-  module _ (lent : judgeLentOf bundle curves ≡ Done) (out : List ℕ) (s : State) (samples i : ℕ) (far : Sofar out s samples i) {k : Parts} (is : k ≡ partsOf bundle s) where
+  module _ (lent : judgeLentOf bundle curves ≡ Done) (out : List ℕ) (s : State) (samples i : ℕ) (far : Sofar out s samples i) where
     abbrev keptRow : Samples
-    keptRow = rowOf bundle curves (k .topology) (cacheOfParts k) (s .registers .mode) (s .integrator) (remaining i)
+    keptRow = keptRowOf bundle curves s (remaining i)
 
     row-fresh : keptRow ≡ row lent out s samples i far
     unfolding partsOf
     row-fresh =
-        ap (λ (x : Parts). rowOf bundle curves (x .topology) (cacheOfParts x) (s .registers .mode) (s .integrator) (remaining i)) is
-        ∙ row-same-samples bundle curves (freshTopologyOf s) (cacheOfParts (partsOf bundle s)) (controlsOf bundle s) (s .registers .mode)
+        row-same-samples bundle curves (freshTopologyOf s) (cacheOfParts (partsOf bundle s)) (controlsOf bundle s) (s .registers .mode)
         (λ j sum energy. parts-sample bundle curves s (far .good) j sum energy) (s .integrator) (remaining i)
 
     -- a row of samples
@@ -454,8 +459,8 @@ module _ (bundle curves script : List ℕ) (count : ℕ) (s₀ : State) (out₀ 
       d-is : (b : Bool) → d ≡ b → isDoneOf (w .answer) ≡ b
       d-is b h = ap (λ (x : Row). isDoneOf (x .answer)) (sym r-is) ∙ sym is-d ∙ h
 
-      pub row-goes : d ≡ true → (k ≡ partsOf bundle (withIntegrator s (r .integrator))) × Sofar after (withIntegrator s (r .integrator)) (r .samples) (r .events)
-      row-goes h = (is ∙ sym (parts-stay s (r .integrator)), rw (r-is, after-is) (row-done lent out s samples i far (d-is true h)))
+      pub row-goes : d ≡ true → Sofar after (withIntegrator s (r .integrator)) (r .samples) (r .events)
+      row-goes h = rw (r-is, after-is) (row-done lent out s samples i far (d-is true h))
 
       pub row-stops : d ≡ false → Finished (r .answer) (r .events) (r .samples) (withIntegrator s (r .integrator)) after
       row-stops h = rw (r-is, after-is) (row-stopped lent out s samples i far (d-is false h))
@@ -470,27 +475,24 @@ module _ (bundle curves script : List ℕ) (count : ℕ) (s₀ : State) (out₀ 
               absurd (true≢false (sym wanted ∙ ap (λ (a : Asked). a .sample) asks ∙ law lent out s samples i far .ends e (remaining (i + 1)) (d-is true h) here))
           go (suc n) z = omega arith
 
-    -- an event that is no sample
-    module _ (more : i < count) (e : Event) (at : eventAt script (8 + 12 * i) ≡ Readable e) {ask : Asked} (asks : ask ≡ askedOf e) (other : ask .sample ≡ false) {c : Changed} (is-c : c ≡ changeOf bundle k s e) {d : Bool} (is-d : d ≡ isDoneOf (c .answer)) where
-      no-sample-here : askedOf e .sample ≡ false
-      no-sample-here = ap (λ (a : Asked). a .sample) (sym asks) ∙ other
+    -- a row of other events
+    module _ {m : Moved} (is-m : m ≡ movesEnd i (movesOf bundle s (remaining i))) {d : Bool} (is-d : d ≡ isDoneOf (m .answer)) where
+      m-is : (b : Bool) → d ≡ b → isDoneOf (movesOf bundle s (remaining i) .answer) ≡ b
+      m-is b h = ap (λ (x : Moved). isDoneOf (x .answer)) (sym is-m) ∙ sym is-d ∙ h
 
-      stepped : Stepped bundle curves s e c
-      stepped = rw is-c (change-steps bundle curves s (far .good) is e no-sample-here)
+      pub moves-go : d ≡ true → Sofar out (m .state) samples (m .events)
+      moves-go h = rw is-m (moves-done lent out s samples i far (m-is true h))
 
-      pub change-goes : d ≡ true → (c .parts ≡ partsOf bundle (c .state)) × Sofar out (c .state) samples (i + 1)
-      change-goes h =
-          let p = stepped .done (sym is-d ∙ h) in
-          rw (p .1) (p .2, event-done lent out s samples i far e more at no-sample-here (ap isDoneOf (p .0)))
+      pub moves-stop : d ≡ false → Finished (m .answer) (m .events) samples (m .state) out
+      moves-stop h = rw is-m (moves-stopped lent out s samples i far (m-is false h))
 
-      pub change-stops : d ≡ false → Finished (c .answer) i samples s out
-      change-stops h =
-          let p = stepped .refused (sym is-d ∙ h) in
-          subst (λ (a : Answer). Finished a i samples s out) p (event-stopped lent out s samples i far e more at no-sample-here (ap isDoneOf p ∙ sym is-d ∙ h))
+      -- it has one event at least
+      pub moves-move : i < count → (e : Event) → eventAt script (8 + 12 * i) ≡ Readable e → {ask : Asked} → ask ≡ askedOf e → ask .sample ≡ false → d ≡ true → i < m .events
+      moves-move more e at asks other h =
+          let next = events-next script count i more e at in
+          let some = moves-some bundle curves lent s e (remaining (i + 1)) (ap (λ (a : Asked). a .sample) (sym asks) ∙ other) (ap (λ (es : List Event). isDoneOf (movesOf bundle s es .answer)) (sym next) ∙ m-is true h) in
+          let here = subst (λ (es : List Event). zero < movesOf bundle s es .events) (sym next) some in
+          rw is-m (omega arith)
 
     pub unreadable : i < count → eventAt script (8 + 12 * i) ≡ Unreadable → ⊥
     unreadable = readable-here lent out s samples i far
-
-pub rest-is : (bundle : List ℕ) (s : State) {k : Parts} → k ≡ partsOf bundle s → k .rest ≡ restOf bundle (k .topology)
-unfolding partsOf
-rest-is bundle s is = rw is refl

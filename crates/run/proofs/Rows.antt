@@ -21,7 +21,8 @@ use Rattle.sample.specs.Kept.{cacheOf, restOf, sampleKeptOf}
 use Rattle.sample.proofs.Kept.{kept-is-sample}
 use Rattle.kept.specs.Kept.{inputDrives, feedbackDrives}
 use Rattle.run.specs.declared.Parts.{Parts}
-use Rattle.run.specs.Parts.{cacheOfParts}
+use Rattle.control.specs.declared.State.{State}
+use Rattle.run.specs.Parts.{partsOf, cacheOfParts}
 use lib.Ieee.{Float}
 use Rattle.script.specs.declared.Event.{Event}
 use Rattle.script.specs.declared.Event.the-variants.{CutoffLow, CutoffHigh, Routing, Mode, Sample, Reset}
@@ -37,10 +38,14 @@ use Rattle.run.proofs.Bytes.{length-outputs, length-output}
 
 -- ---- a sample on the kept parts
 
+rest-is : (bundle : List ℕ) (s : State) {k : Parts} → k ≡ partsOf bundle s → k .rest ≡ restOf bundle (k .topology)
+unfolding partsOf
+rest-is bundle s is = rw is refl
+
 pub kept-sample :
-    (bundle curves : List ℕ) (k : Parts) (mode : ℕ) {drives feedback : List Float} → drives ≡ inputDrives → feedback ≡ feedbackDrives → k .rest ≡ restOf bundle (k .topology) → (i : IntegratorState) (sum energy : Float)
+    (bundle curves : List ℕ) (s : State) {k : Parts} → k ≡ partsOf bundle s → (mode : ℕ) {drives feedback : List Float} → drives ≡ inputDrives → feedback ≡ feedbackDrives → (i : IntegratorState) (sum energy : Float)
     → sampleKeptOf curves (k .topology) (cacheOf (k .gains) drives feedback (k .core) (k .«mode_output_gain»)) (k .rest) mode i sum energy ≡ sampleOf bundle curves (k .topology) (cacheOfParts k) mode i sum energy
-kept-sample bundle curves k mode hi hf hr i sum energy = rw (hi, hf, hr) (kept-is-sample bundle curves (k .topology) (cacheOfParts k) mode i sum energy)
+kept-sample bundle curves s {k} is mode hi hf i sum energy = rw (hi, hf, rest-is bundle s is) (kept-is-sample bundle curves (k .topology) (cacheOfParts k) mode i sum energy)
 
 -- ---- the samples among events
 

@@ -29,9 +29,8 @@ use Rattle.script.proofs.Cut.{Header, header, events-count}
 use Rattle.filter.specs.Core.{judgeLentOf}
 use Rattle.run.specs.declared.Played.{Played}
 use Rattle.run.specs.declared.Ended.{Ended}
-use Rattle.run.specs.declared.Worked.{Worked}
-use Rattle.run.specs.Parts.{partsOf, workedOf}
-use Rattle.run.proofs.Changes.{worked-answer}
+use Rattle.run.specs.Parts.{judgedOf}
+use Rattle.run.proofs.Changes.{judged-is}
 use Rattle.filter.specs.Plain.{Plain, plainStep}
 use Rattle.run.specs.Run.{Ran, stopped, went, playOf, playedOf, sampleBytes, isValid, judgeBlockOf, judgeScriptOf, judgeRunOf, Run, leftOf, runOf}
 use Rattle.run.specs.Rows.{playEnd, endedOf}
@@ -101,19 +100,19 @@ module _ (bundle curves block script : List ℕ) (room : ℕ) (judged : judgeRun
       go Invalid e h = absurd (true≢false (sym h))
 
   -- the start
-  module _ (s : State) {x : Decoded} (e : x ≡ decodeOf block) (h : x ≡ Valid s) {w : Worked} (is : w ≡ workedOf bundle s) {d : Bool} (is-d : d ≡ isDoneOf (w .answer)) where
+  module _ (s : State) {x : Decoded} (e : x ≡ decodeOf block) (h : x ≡ Valid s) {a : Answer} (is : a ≡ judgedOf bundle s) {d : Bool} (is-d : d ≡ isDoneOf a) where
     decodes : Decodes block s
     decodes = decoded block s (sym e ∙ h)
 
-    answer-is : w .answer ≡ judgeControlsOf bundle s
-    answer-is = ap (λ (x : Worked). x .answer) is ∙ worked-answer bundle s (decodes .valid)
+    answer-is : a ≡ judgeControlsOf bundle s
+    answer-is = is ∙ judged-is bundle s (decodes .valid)
 
     done-here : (v : Bool) → d ≡ v → isDoneOf (judgeControlsOf bundle s) ≡ v
     done-here v h = ap isDoneOf (sym answer-is) ∙ sym is-d ∙ h
 
     -- refused by its controls
     pub start-stops : d ≡ false → (output : List ℕ)
-        → (_≡_ {A = Played} (record { answer = w .answer; events = 0; samples = 0; state = s }) (playEnd 0 0 (playedOf bundle curves (fieldsOf block) (eventsOf script))))
+        → (_≡_ {A = Played} (record { answer = a; events = 0; samples = 0; state = s }) (playEnd 0 0 (playedOf bundle curves (fieldsOf block) (eventsOf script))))
         × (output ≡ putAt output 0 (sampleBytes (playedOf bundle curves (fieldsOf block) (eventsOf script) .samples)))
     unfolding playedOf sampleBytes
     start-stops f output = rw (decodes .fields, answer-is, done-here false f) (refl, sym (putAt-nil output 0))
@@ -127,11 +126,10 @@ module _ (bundle curves block script : List ℕ) (room : ℕ) (judged : judgeRun
       start-plays c = rw (c, decodes .fields, done-here true t, first-is) refl
 
       pub ready : {count : ℕ} → count ≡ u32At script 0
-          → ((count ≤ 65536) × (judgeLentOf bundle curves ≡ Done) × (validOf s ≡ true) × (judgeControlsOf bundle s ≡ Done) × (allReadable (slicesFrom script count 0) ≡ true) × (16 * samplesOf (eventsIn (slicesFrom script count 0)) ≤ room))
-          × (w .parts ≡ partsOf bundle s)
+          → (count ≤ 65536) × (judgeLentOf bundle curves ≡ Done) × (validOf s ≡ true) × (judgeControlsOf bundle s ≡ Done) × (allReadable (slicesFrom script count 0) ≡ true) × (16 * samplesOf (eventsIn (slicesFrom script count 0)) ≤ room)
       ready c =
           let k = header script formed in
-          (rw (c, first-is) (k .few, parts .0, decodes .valid, done-is (judgeControlsOf bundle s) (done-here true t), k .readable, roomy), ap (λ (x : Worked). x .parts) is)
+          rw (c, first-is) (k .few, parts .0, decodes .valid, done-is (judgeControlsOf bundle s) (done-here true t), k .readable, roomy)
 
 -- ---- the bytes that are left
 

@@ -1,4 +1,4 @@
--- Samples in a row, between which nothing that is kept changes: how the run's loop takes its events.
+-- Samples in a row, between which only the integrator moves, and other events in a row: how the run's loop takes its events.
 use Prim.Native.Nat.{ℕ, suc, _+_}
 use mathlib.Core.Bool.{true, false, cond}
 use mathlib.Core.List.{List, [], _∷_}
@@ -6,8 +6,12 @@ use lib.ListN.{length}
 use lib.Ieee.{Float}
 use Rattle.answers.specs.declared.Answer.{Answer}
 use Rattle.answers.specs.declared.Answer.the-variants.{Done}
+use Rattle.answers.specs.Answers.{isDoneOf}
 use Rattle.floats.specs.Arithmetic.{f32}
 use Rattle.integrator.specs.declared.IntegratorState.{IntegratorState}
+use Rattle.control.specs.declared.State.{State}
+use Rattle.control.specs.Registers.{startingState, writeCutoffLowOf, writeCutoffHighOf, writeSignalRoutingOf, writeModeAndVolumeOf}
+use Rattle.controls.specs.Judging.{judgeControlsOf}
 use Rattle.mixing.specs.declared.MixingTopology.{MixingTopology}
 use Rattle.controls.specs.declared.ControlCache.{ControlCache}
 use Rattle.sample.specs.declared.Outputs.{Outputs}
@@ -18,6 +22,7 @@ use Rattle.script.specs.declared.Event.{Event}
 use Rattle.script.specs.declared.Event.the-variants.{CutoffLow, CutoffHigh, Routing, Mode, Sample, Reset}
 use Rattle.run.specs.declared.Asked.{Asked}
 use Rattle.run.specs.declared.Row.{Row}
+use Rattle.run.specs.declared.Moved.{Moved}
 use Rattle.run.specs.declared.Played.{Played}
 use Rattle.run.specs.declared.Ended.{Ended}
 use Rattle.run.specs.Run.{Ran, Run}
@@ -59,9 +64,41 @@ rowOf bundle curves t c mode i (e ∷ es) =
     (rowOn (λ j. rowOf bundle curves t c mode j es) i (sampleOf bundle curves t c mode i (askedOf e .«input_sum») (askedOf e .«source_energy»)))
     (noSamples Done i)
 
+-- The state that an event which is no sample leads to.
+abbrev pub nextOf : State → Event → State
+nextOf s (CutoffLow value) = writeCutoffLowOf s value
+nextOf s (CutoffHigh value) = writeCutoffHighOf s value
+nextOf s (Routing value) = writeSignalRoutingOf s value
+nextOf s (Mode value) = writeModeAndVolumeOf s value
+nextOf s (Sample sum energy) = s
+nextOf s Reset = startingState
+
+-- The other events that come first, up to one that is refused: how many, and the state after them.
+pub record Moves : Type 0 where
+  pub answer : Answer
+  pub events : ℕ
+  pub state : State
+
+abbrev pub noMoves : Answer → State → Moves
+noMoves answer s = record { answer = answer; events = 0; state = s }
+
+abbrev pub oneMove : Moves → Moves
+oneMove m = record { answer = m .answer; events = suc (m .events); state = m .state }
+
+unfoldable pub movesOf : List ℕ → State → List Event → Moves
+movesOf bundle s [] = noMoves Done s
+movesOf bundle s (e ∷ es) =
+    let judged = judgeControlsOf bundle (nextOf s e) in
+    cond (askedOf e .sample)
+    (noMoves Done s)
+    (cond (isDoneOf judged) (oneMove (movesOf bundle (nextOf s e) es)) (noMoves judged s))
+
 -- as the code has them, after the events and samples before
 abbrev pub rowEnd : ℕ → ℕ → Samples → Row
 rowEnd events samples r = record { answer = r .answer; events = events + r .events; samples = samples + length (r .outputs); integrator = r .integrator }
+
+abbrev pub movesEnd : ℕ → Moves → Moved
+movesEnd events m = record { answer = m .answer; events = events + m .events; state = m .state }
 
 abbrev pub playEnd : ℕ → ℕ → Ran → Played
 playEnd events samples r = record { answer = r .answer; events = events + r .events; samples = samples + length (r .samples); state = r .state }

@@ -11,7 +11,6 @@ ghost use Rattle.answers.specs.declared.Answer.the-variants.{Done};
 ghost use Rattle.control.specs.Registers.{effectiveCutoffOf};
 ghost use Rattle.kept.specs.Kept.{coreRefreshedOf};
 ghost use Rattle.filter.specs.Core.{freshTopologyOf, judgeLentOf};
-ghost use Rattle.sample.specs.Kept.{restOf};
 ghost use Rattle.control.specs.Block.{validOf};
 ghost use Rattle.controls.specs.Judging.{judgeControlsOf};
 ghost use Rattle.run.specs.Run as R;
@@ -52,7 +51,7 @@ pub struct Row {
     pub integrator: IntegratorState,
 }
 
-// What is kept between events: of the controls the part that a sample reads, and the summer's rest.
+// What is kept between samples in a row: of the controls the part that a sample reads, and the summer's rest.
 pub struct Parts {
     pub topology: MixingTopology,
     pub gains: [f32; 16],
@@ -61,17 +60,17 @@ pub struct Parts {
     pub rest: Read,
 }
 
-// The parts of a state, and whether working them out is refused.
-pub struct Worked {
-    pub answer: Answer,
-    pub parts: Parts,
-}
-
-// The state after an event that is no sample, with its parts, and whether it is refused.
+// The state after an event that is no sample, and whether it is refused.
 pub struct Changed {
     pub answer: Answer,
     pub state: State,
-    pub parts: Parts,
+}
+
+// Where events in a row that are no samples end, by the events done up to there.
+pub struct Moved {
+    pub answer: Answer,
+    pub events: usize,
+    pub state: State,
 }
 
 // Where the events end.
@@ -153,105 +152,59 @@ fn topology_of(state: State) -> MixingTopology
     MixingTopology::update(registers.routing, registers.mode)
 }
 
-// Everything, worked out from a state. Refuses 3, 6.
-fn work_out(bundle: &[u8], state: State) -> Worked
-    ensures { λ r. ⌜ r ≡ P.workedOf (now (bundle .entry)) state ⌝ }
+// Everything, worked out from a state.
+fn parts_of(bundle: &[u8], state: State) -> Parts
+    ensures { λ r. ⌜ r ≡ P.partsOf (now (bundle .entry)) state ⌝ }
 {
     let fresh = core_of(bundle, state);
-    let gain = gain_of(bundle, state);
-    let judged = fresh.answer;
     let gains = fresh.integrator_gain;
     let core = fresh.core;
     let topology = topology_of(state);
-    let rest = sample::rest_of(bundle, topology);
-    Worked {
-        answer: answers::first(judged, gain_answer(gain)),
-        parts: Parts {
-            topology,
-            gains,
-            core,
-            mode_output_gain: gain_value(gain),
-            rest,
-        },
+    Parts {
+        topology,
+        gains,
+        core,
+        mode_output_gain: gain_value(gain_of(bundle, state)),
+        rest: sample::rest_of(bundle, topology),
     }
 }
 
-// After a write of the cutoff: topology and rest stay.
-fn recut(bundle: &[u8], parts: Parts, state: State) -> Worked
-    ensures { λ r. ⌜ r ≡ P.recutOf (now (bundle .entry)) parts state ⌝ }
+// ---- what is refused
+
+// What the controls of a state refuse: 3 of the filter's entries, then 3 and 6 of the gain.
+fn judge_state(bundle: &[u8], state: State) -> Answer
+    ensures { λ r. ⌜ r ≡ P.judgedOf (now (bundle .entry)) state ⌝ }
 {
-    let fresh = core_of(bundle, state);
-    let gain = gain_of(bundle, state);
-    let judged = fresh.answer;
-    let gains = fresh.integrator_gain;
-    let core = fresh.core;
-    let topology = parts.topology;
-    let rest = parts.rest;
-    Worked {
-        answer: answers::first(judged, gain_answer(gain)),
-        parts: Parts {
-            topology,
-            gains,
-            core,
-            mode_output_gain: gain_value(gain),
-            rest,
-        },
-    }
+    let registers = state.registers;
+    let core = controls::judge_filter(bundle, state.effective_cutoff(), registers.resonance);
+    answers::first(core, gain_answer(gain_of(bundle, state)))
 }
 
-// After a write of the mode: the filter's controls and the rest stay.
-fn reselect(bundle: &[u8], parts: Parts, state: State) -> Worked
-    ensures { λ r. ⌜ r ≡ P.reselectOf (now (bundle .entry)) parts state ⌝ }
+// A state that an event leads to.
+fn changed_to(bundle: &[u8], next: State) -> Changed
+    ensures { λ r. ⌜ r ≡ P.changedTo (P.judgedOf (now (bundle .entry)) next) next ⌝ }
 {
-    let gain = gain_of(bundle, state);
-    let gains = parts.gains;
-    let core = parts.core;
-    let topology = topology_of(state);
-    let rest = parts.rest;
-    Worked {
-        answer: gain_answer(gain),
-        parts: Parts {
-            topology,
-            gains,
-            core,
-            mode_output_gain: gain_value(gain),
-            rest,
-        },
-    }
-}
-
-fn changed_to(state: State, worked: Worked) -> Changed
-    ensures { λ r. ⌜ r ≡ P.changedTo state worked ⌝ }
-{
-    let answer = worked.answer;
-    let parts = worked.parts;
     Changed {
-        answer,
-        state,
-        parts,
+        answer: judge_state(bundle, next),
+        state: next,
     }
 }
 
-// An event that is no sample.
-fn change(bundle: &[u8], parts: Parts, state: State, event: Event) -> Changed
-    ensures { λ r. ⌜ r ≡ P.changeOf (now (bundle .entry)) parts state event ⌝ }
+// An event that is no sample. After a write of the mode the filter's entries are those that were judged before.
+fn change(bundle: &[u8], state: State, event: Event) -> Changed
+    requires { ⌜ (validOf state ≡ true) × (judgeControlsOf (now bundle) state ≡ Done) ⌝ }
+    ensures { λ r. ⌜ r ≡ P.changedTo (judgeControlsOf (now (bundle .entry)) (W.nextOf state event)) (W.nextOf state event) ⌝ }
 {
     match event {
-        Event::CutoffLow(value) => {
-            let next = state.write_cutoff_low(value);
-            changed_to(next, recut(bundle, parts, next))
-        }
-        Event::CutoffHigh(value) => {
-            let next = state.write_cutoff_high(value);
-            changed_to(next, recut(bundle, parts, next))
-        }
-        Event::Routing(value) => {
-            let next = state.write_signal_routing(value);
-            changed_to(next, work_out(bundle, next))
-        }
+        Event::CutoffLow(value) => changed_to(bundle, state.write_cutoff_low(value)),
+        Event::CutoffHigh(value) => changed_to(bundle, state.write_cutoff_high(value)),
+        Event::Routing(value) => changed_to(bundle, state.write_signal_routing(value)),
         Event::Mode(value) => {
             let next = state.write_mode_and_volume(value);
-            changed_to(next, reselect(bundle, parts, next))
+            Changed {
+                answer: gain_answer(gain_of(bundle, next)),
+                state: next,
+            }
         }
         Event::Sample {
             input_sum,
@@ -259,12 +212,8 @@ fn change(bundle: &[u8], parts: Parts, state: State, event: Event) -> Changed
         } => Changed {
             answer: Answer::Done,
             state,
-            parts,
         },
-        Event::Reset => {
-            let next = state.reset();
-            changed_to(next, work_out(bundle, next))
-        }
+        Event::Reset => changed_to(bundle, state.reset()),
     }
 }
 
@@ -288,9 +237,7 @@ fn put_outputs(output: &mut [u8], place: usize, o: Outputs)
 fn play_samples(
     bundle: &[u8],
     curves: &[u8],
-    parts: Parts,
-    mode: u8,
-    from: IntegratorState,
+    state: State,
     script: &[u8],
     start: usize,
     count: usize,
@@ -298,13 +245,15 @@ fn play_samples(
     before: usize,
 ) -> Row
     requires { ⌜ (start ≤ count) × (count ≤ 65536) × (before ≤ start) × (allReadable (slicesFrom (now script) count start) ≡ true) × (16 * (before + samplesOf (eventsIn (slicesFrom (now script) count start))) ≤ length (now output)) ⌝ }
-    requires { ⌜ parts .rest ≡ restOf (now bundle) (parts .topology) ⌝ }
-    ensures { λ r. ⌜ (r ≡ W.rowEnd start before (W.rowOf (now (bundle .entry)) (now (curves .entry)) (parts .topology) (P.cacheOfParts parts) mode from (eventsIn (slicesFrom (now (script .entry)) count start)))) × (now (output .exit) ≡ putAt (now (output .entry)) (16 * before) (R.sampleBytes (W.rowOf (now (bundle .entry)) (now (curves .entry)) (parts .topology) (P.cacheOfParts parts) mode from (eventsIn (slicesFrom (now (script .entry)) count start)) .outputs))) ⌝ }
+    ensures { λ r. ⌜ (r ≡ W.rowEnd start before (P.keptRowOf (now (bundle .entry)) (now (curves .entry)) state (eventsIn (slicesFrom (now (script .entry)) count start)))) × (now (output .exit) ≡ putAt (now (output .entry)) (16 * before) (R.sampleBytes (P.keptRowOf (now (bundle .entry)) (now (curves .entry)) state (eventsIn (slicesFrom (now (script .entry)) count start)) .outputs))) ⌝ }
 {
+    let parts = parts_of(bundle, state);
     let topology = parts.topology;
     let gains = parts.gains;
     let core = parts.core;
     let rest = parts.rest;
+    let registers = state.registers;
+    let from = state.integrator;
     let input_drives = kept::input_drives();
     let feedback_drives = kept::feedback_drives();
     let mut integrator = from;
@@ -330,7 +279,7 @@ fn play_samples(
                 core,
                 parts.mode_output_gain,
                 rest,
-                mode,
+                registers.mode,
                 integrator,
                 ask.input_sum,
                 ask.source_energy,
@@ -367,24 +316,66 @@ fn play_samples(
     }
 }
 
+// ---- other events in a row
+
+// The events in a row from an event on that are no samples.
+fn play_changes(bundle: &[u8], from: State, script: &[u8], start: usize, count: usize) -> Moved
+    requires { ⌜ (start ≤ count) × (count ≤ 65536) × (validOf from ≡ true) × (judgeControlsOf (now bundle) from ≡ Done) × (allReadable (slicesFrom (now script) count start) ≡ true) ⌝ }
+    ensures { λ r. ⌜ r ≡ W.movesEnd start (W.movesOf (now (bundle .entry)) from (eventsIn (slicesFrom (now (script .entry)) count start))) ⌝ }
+{
+    let mut state = from;
+    let mut i = start;
+    while i < count {
+        let Decoded::Readable(event) = script::event_at(script, 8 + 12 * i) else {
+            return Moved {
+                answer: Answer::Script,
+                events: i,
+                state,
+            };
+        };
+        let ask = asks(event);
+        if ask.sample {
+            return Moved {
+                answer: Answer::Done,
+                events: i,
+                state,
+            };
+        }
+        let changed = change(bundle, state, event);
+        let answer = changed.answer;
+        if answers::is_done(answer) {
+            state = changed.state;
+            i += 1;
+        } else {
+            return Moved {
+                answer,
+                events: i,
+                state,
+            };
+        }
+    }
+    Moved {
+        answer: Answer::Done,
+        events: i,
+        state,
+    }
+}
+
 // ---- the events
 
-// The events of a script from a state and its parts on: samples in a row, then one event that is none, and so on.
+// The events of a script from a state on: samples in a row, then other events in a row, and so on.
 fn play(
     bundle: &[u8],
     curves: &[u8],
     first: State,
-    kept: Parts,
     script: &[u8],
     count: usize,
     output: &mut [u8],
 ) -> Played
     requires { ⌜ (count ≤ 65536) × (judgeLentOf (now bundle) (now curves) ≡ Done) × (validOf first ≡ true) × (judgeControlsOf (now bundle) first ≡ Done) × (allReadable (slicesFrom (now script) count 0) ≡ true) × (16 * samplesOf (eventsIn (slicesFrom (now script) count 0)) ≤ length (now output)) ⌝ }
-    requires { ⌜ kept ≡ P.partsOf (now bundle) first ⌝ }
     ensures { λ r. ⌜ (r ≡ W.playEnd 0 0 (R.playOf (now (bundle .entry)) (now (curves .entry)) first (eventsIn (slicesFrom (now (script .entry)) count 0)))) × (now (output .exit) ≡ putAt (now (output .entry)) 0 (R.sampleBytes (R.playOf (now (bundle .entry)) (now (curves .entry)) first (eventsIn (slicesFrom (now (script .entry)) count 0)) .samples))) ⌝ }
 {
     let mut state = first;
-    let mut parts = kept;
     let mut samples = 0;
     let mut i = 0;
     while i < count {
@@ -398,20 +389,7 @@ fn play(
         };
         let ask = asks(event);
         if ask.sample {
-            let registers = state.registers;
-            let integrator = state.integrator;
-            let row = play_samples(
-                bundle,
-                curves,
-                parts,
-                registers.mode,
-                integrator,
-                script,
-                i,
-                count,
-                output,
-                samples,
-            );
+            let row = play_samples(bundle, curves, state, script, i, count, output, samples);
             let answer = row.answer;
             let after = row.integrator;
             state.integrator = after;
@@ -427,20 +405,19 @@ fn play(
                 state,
             };
         }
-        let changed = change(bundle, parts, state, event);
-        let answer = changed.answer;
+        let moved = play_changes(bundle, state, script, i, count);
+        let answer = moved.answer;
+        state = moved.state;
+        i = moved.events;
         if answers::is_done(answer) {
-            state = changed.state;
-            parts = changed.parts;
-            i += 1;
-        } else {
-            return Played {
-                answer,
-                events: i,
-                samples,
-                state,
-            };
+            continue;
         }
+        return Played {
+            answer,
+            events: i,
+            samples,
+            state,
+        };
     }
     Played {
         answer: Answer::Done,
@@ -501,12 +478,10 @@ fn play_block(
             state: State::new(),
         };
     };
-    let worked = work_out(bundle, state);
-    let answer = worked.answer;
-    let parts = worked.parts;
+    let answer = judge_state(bundle, state);
     if answers::is_done(answer) {
         let count = wire::u32_at(script, 0) as usize;
-        return play(bundle, curves, state, parts, script, count, output);
+        return play(bundle, curves, state, script, count, output);
     }
     Played {
         answer,

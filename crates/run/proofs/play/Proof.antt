@@ -4,22 +4,20 @@ use mathlib.Core.Path.{_≡_, sym, ap, _∙_}
 use lib.ListN.{length}
 use borrow.Author.Needs.{needs}
 use Rattle.wire.proofs.Laws.{length-putAt}
-use Rattle.run.specs.Parts.{partsOf}
-use Rattle.run.proofs.Loop.{Sofar, sofar-start, at-end, row-goes, row-stops, row-moves, change-goes, change-stops, unreadable, rest-is}
+use Rattle.run.proofs.Loop.{Sofar, sofar-start, at-end, row-goes, row-stops, row-moves, moves-go, moves-stop, moves-move, unreadable}
 use Rattle.run.proofs.play.Statement.{statement}
 use Rattle.run.proofs.play.Tie as tie
 
 abbrev Inv-loop : tie.InvT-loop
-Inv-loop bundle curves script count output₀ state₀ parts₀ samples₀ i₀ output state parts samples i =
-    (parts ≡ partsOf bundle state) × Sofar bundle curves script count state₀ output₀ output state samples i
+Inv-loop bundle curves script count output₀ state₀ samples₀ i₀ output state samples i = Sofar bundle curves script count state₀ output₀ output state samples i
 
 abbrev μ-loop : tie.MeasureT-loop
-μ-loop bundle curves script count output₀ state₀ parts₀ samples₀ i₀ output state parts samples i = count - i
+μ-loop bundle curves script count output₀ state₀ samples₀ i₀ output state samples i = count - i
 
 loop-holds : tie.Need-loop-holds Inv-loop μ-loop
 loop-holds c =
     let z = c .before .before .before .before .pre in
-    (z .1, sofar-start _ _ _ _ _ _ (record { valid = z .0 .2; judged = z .0 .3 }) (z .0 .4) (z .0 .5))
+    sofar-start _ _ _ _ _ _ (record { valid = z .2; judged = z .3 }) (z .4) (z .5)
 
 mul-event-at : tie.Need-mul-event-at Inv-loop μ-loop
 mul-event-at c = search needs
@@ -37,22 +35,22 @@ enum-told : tie.Need-enum-told Inv-loop μ-loop
 enum-told c = search needs
 
 same-length : tie.Need-same-length Inv-loop μ-loop
-same-length c = c .before .before .before .before .loop .inv .1 .long
+same-length c = c .before .before .before .before .loop .inv .long
 
 returns : tie.Need-returns Inv-loop μ-loop
 returns c =
     let e = c .before .before in
     let l = e .before .before in
-    absurd (unreadable _ _ _ _ _ _ (l .before .before .before .before .before .pre .0 .1) _ _ _ _ (l .loop .inv .1) (l .loop .inv .0) (e .before .loop-test .taken) (sym (e .event-at .ensures) ∙ c .enum-told .given .1))
+    absurd (unreadable _ _ _ _ _ _ (l .before .before .before .before .before .pre .1) _ _ _ _ (l .loop .inv) (e .before .loop-test .taken) (sym (e .event-at .ensures) ∙ c .enum-told .given .1))
 
 asks-requires : tie.Need-asks-requires Inv-loop μ-loop
 asks-requires c κs = search needs
 
 play-samples-requires : tie.Need-play-samples-requires Inv-loop μ-loop
 play-samples-requires c κs =
-    let l = c .before .before .before .before .before .before .before .before .before .before in
-    let far = l .loop .inv .1 in
-    ((far .within, l .before .before .before .before .before .pre .0 .0, far .few, far .readable, far .room), rest-is _ _ (l .loop .inv .0))
+    let l = c .before .before .before .before .before .before .before .before in
+    let far = l .loop .inv in
+    (far .within, l .before .before .before .before .before .pre .0, far .few, far .readable, far .room)
 
 is-done-requires : tie.Need-is-done-requires Inv-loop μ-loop
 is-done-requires c κs = search needs
@@ -60,86 +58,73 @@ is-done-requires c κs = search needs
 loop-less : tie.Need-loop-less Inv-loop μ-loop
 loop-less c =
     let p = c .before .before .before .before .before in
-    let a = p .before .before .before .before .before in
+    let a = p .before .before .before in
     let v = a .before .before in
     let e = v .before .before in
     let l = e .before .before in
-    let inv = l .loop .inv in
-    let more = e .before .loop-test .taken in
-    let moves = row-moves _ _ _ _ _ _ (l .before .before .before .before .before .pre .0 .1) _ _ _ _ (inv .1) (inv .0) (p .play-samples .ensures .0) (p .play-samples .ensures .1) (c .before .is-done .ensures) more (v .event .given .0 .0) (sym (e .event-at .ensures) ∙ v .event .given .1) (a .asks .ensures) (p .before .before .before .before .if1 .taken) (c .if2 .taken) in
-    let within = row-goes _ _ _ _ _ _ (l .before .before .before .before .before .pre .0 .1) _ _ _ _ (inv .1) (inv .0) (p .play-samples .ensures .0) (p .play-samples .ensures .1) (c .before .is-done .ensures) (c .if2 .taken) .1 .within in
+    let lent = l .before .before .before .before .before .pre .1 in
+    let moves = row-moves _ _ _ _ _ _ lent _ _ _ _ (l .loop .inv) (p .play-samples .ensures .0) (p .play-samples .ensures .1) (c .before .is-done .ensures) (e .before .loop-test .taken) (v .event .given .0 .0) (sym (e .event-at .ensures) ∙ v .event .given .1) (a .asks .ensures) (p .before .before .if1 .taken) (c .if2 .taken) in
+    let within = row-goes _ _ _ _ _ _ lent _ _ _ _ (l .loop .inv) (p .play-samples .ensures .0) (p .play-samples .ensures .1) (c .before .is-done .ensures) (c .if2 .taken) .within in
     omega arith
 
 loop-again : tie.Need-loop-again Inv-loop μ-loop
 loop-again c =
     let p = c .before .before .before .before .before in
-    let a = p .before .before .before .before .before in
-    let v = a .before .before in
-    let e = v .before .before in
-    let l = e .before .before in
-    let inv = l .loop .inv in
-    row-goes _ _ _ _ _ _ (l .before .before .before .before .before .pre .0 .1) _ _ _ _ (inv .1) (inv .0) (p .play-samples .ensures .0) (p .play-samples .ensures .1) (c .before .is-done .ensures) (c .if2 .taken)
+    let l = p .before .before .before .before .before .before .before .before .before in
+    row-goes _ _ _ _ _ _ (l .before .before .before .before .before .pre .1) _ _ _ _ (l .loop .inv) (p .play-samples .ensures .0) (p .play-samples .ensures .1) (c .before .is-done .ensures) (c .if2 .taken)
 
 same-length-2 : tie.Need-same-length-2 Inv-loop μ-loop
 same-length-2 c =
     let p = c .before .before .before .before .before in
-    ap length (p .play-samples .ensures .1) ∙ length-putAt _ _ _ ∙ p .before .before .before .before .before .before .before .before .before .before .before .loop .inv .1 .long
+    ap length (p .play-samples .ensures .1) ∙ length-putAt _ _ _ ∙ p .before .before .before .before .before .before .before .before .before .loop .inv .long
 
 returns-2 : tie.Need-returns-2 Inv-loop μ-loop
 returns-2 c =
     let p = c .before .before .before .before .before in
-    let a = p .before .before .before .before .before in
-    let v = a .before .before in
-    let e = v .before .before in
-    let l = e .before .before in
-    let inv = l .loop .inv in
-    row-stops _ _ _ _ _ _ (l .before .before .before .before .before .pre .0 .1) _ _ _ _ (inv .1) (inv .0) (p .play-samples .ensures .0) (p .play-samples .ensures .1) (c .before .is-done .ensures) (c .if2 .left)
+    let l = p .before .before .before .before .before .before .before .before .before in
+    row-stops _ _ _ _ _ _ (l .before .before .before .before .before .pre .1) _ _ _ _ (l .loop .inv) (p .play-samples .ensures .0) (p .play-samples .ensures .1) (c .before .is-done .ensures) (c .if2 .left)
 
-change-requires : tie.Need-change-requires Inv-loop μ-loop
-change-requires c κs = search needs
+play-changes-requires : tie.Need-play-changes-requires Inv-loop μ-loop
+play-changes-requires c κs =
+    let l = c .before .before .before .before .before .before .before in
+    let far = l .loop .inv in
+    (far .within, l .before .before .before .before .before .pre .0, far .good .valid, far .good .judged, far .readable)
 
 is-done-requires-2 : tie.Need-is-done-requires-2 Inv-loop μ-loop
 is-done-requires-2 c κs = search needs
 
-add-i : tie.Need-add-i Inv-loop μ-loop
-add-i c =
-    let more = c .before .before .before .before .before .before .before .before .before .before .before .loop-test .taken in
-    let most = c .before .before .before .before .before .before .before .before .before .before .before .before .before .before .before .before .before .pre .0 .0 in
-    record { fits = omega arith }
-
 loop-less-2 : tie.Need-loop-less-2 Inv-loop μ-loop
 loop-less-2 c =
-    let more = c .before .before .before .before .before .before .before .before .before .before .before .loop-test .taken in
+    let p = c .before .before .before in
+    let a = p .before .before in
+    let v = a .before .before in
+    let e = v .before .before in
+    let l = e .before .before in
+    let lent = l .before .before .before .before .before .pre .1 in
+    let moves = moves-move _ _ _ _ _ _ lent _ _ _ _ (l .loop .inv) (p .play-changes .ensures) (c .before .is-done2 .ensures) (e .before .loop-test .taken) (v .event .given .0 .0) (sym (e .event-at .ensures) ∙ v .event .given .1) (a .asks .ensures) (p .before .if1 .left) (c .if3 .taken) in
+    let within = moves-go _ _ _ _ _ _ lent _ _ _ _ (l .loop .inv) (p .play-changes .ensures) (c .before .is-done2 .ensures) (c .if3 .taken) .within in
     omega arith
 
 loop-again-2 : tie.Need-loop-again-2 Inv-loop μ-loop
 loop-again-2 c =
-    let g = c .before .before .before .before in
-    let a = g .before .before in
-    let v = a .before .before in
-    let e = v .before .before in
-    let l = e .before .before in
-    let inv = l .loop .inv in
-    change-goes _ _ _ _ _ _ (l .before .before .before .before .before .pre .0 .1) _ _ _ _ (inv .1) (inv .0) (e .before .loop-test .taken) (v .event .given .0 .0) (sym (e .event-at .ensures) ∙ v .event .given .1) (a .asks .ensures) (g .before .if1 .left) (g .change .ensures) (c .before .before .before .is-done2 .ensures) (c .before .before .if3 .taken)
+    let p = c .before .before .before in
+    let l = p .before .before .before .before .before .before .before .before in
+    moves-go _ _ _ _ _ _ (l .before .before .before .before .before .pre .1) _ _ _ _ (l .loop .inv) (p .play-changes .ensures) (c .before .is-done2 .ensures) (c .if3 .taken)
 
 same-length-3 : tie.Need-same-length-3 Inv-loop μ-loop
-same-length-3 c = c .before .before .before .before .before .before .before .before .before .before .loop .inv .1 .long
+same-length-3 c = c .before .before .before .before .before .before .before .before .before .before .before .loop .inv .long
 
 returns-3 : tie.Need-returns-3 Inv-loop μ-loop
 returns-3 c =
-    let g = c .before .before in
-    let a = g .before .before in
-    let v = a .before .before in
-    let e = v .before .before in
-    let l = e .before .before in
-    let inv = l .loop .inv in
-    change-stops _ _ _ _ _ _ (l .before .before .before .before .before .pre .0 .1) _ _ _ _ (inv .1) (inv .0) (e .before .loop-test .taken) (v .event .given .0 .0) (sym (e .event-at .ensures) ∙ v .event .given .1) (a .asks .ensures) (g .before .if1 .left) (g .change .ensures) (c .before .is-done2 .ensures) (c .if3 .left)
+    let p = c .before .before .before in
+    let l = p .before .before .before .before .before .before .before .before in
+    moves-stop _ _ _ _ _ _ (l .before .before .before .before .before .pre .1) _ _ _ _ (l .loop .inv) (p .play-changes .ensures) (c .before .is-done2 .ensures) (c .if3 .left)
 
 same-length-4 : tie.Need-same-length-4 Inv-loop μ-loop
-same-length-4 c = c .before .loop .inv .1 .long
+same-length-4 c = c .before .loop .inv .long
 
 returns-4 : tie.Need-returns-4 Inv-loop μ-loop
-returns-4 c = at-end _ _ _ _ _ _ (c .before .before .before .before .before .before .pre .0 .1) _ _ _ _ (c .before .loop .inv .1) (c .loop-test .left)
+returns-4 c = at-end _ _ _ _ _ _ (c .before .before .before .before .before .before .pre .1) _ _ _ _ (c .before .loop .inv) (c .loop-test .left)
 
 pub play-spec : {M : Type 1} → statement M
 play-spec =
@@ -162,9 +147,8 @@ play-spec =
     loop-again
     same-length-2
     returns-2
-    change-requires
+    play-changes-requires
     is-done-requires-2
-    add-i
     loop-less-2
     loop-again-2
     same-length-3

@@ -25,8 +25,8 @@ returns c =
     let z = c .before .before .before .before .before .before .before .before .before in
     absurd (not-invalid _ _ _ _ _ (z .pre) (c .before .before .before .decode .ensures) (c .before .enum-told .given .1))
 
-work-out-requires : tie.Need-work-out-requires
-work-out-requires c κs = search needs
+judge-state-requires : tie.Need-judge-state-requires
+judge-state-requires c κs = search needs
 
 is-done-requires : tie.Need-is-done-requires
 is-done-requires c κs = search needs
@@ -39,26 +39,26 @@ cast-count c = search needs
 
 play-requires : tie.Need-play-requires
 play-requires c κs =
-    let v = c .before .before .before .before .before .before .before in
+    let v = c .before .before .before .before .before .before in
     let z = v .before .before .before .before .before .before .before .before in
-    ready _ _ _ _ _ (z .pre) (v .state .given .0 .0) (v .before .before .decode .ensures) (v .state .given .1) (c .before .before .before .before .before .work-out .ensures) (c .before .before .before .is-done .ensures) (c .before .before .if1 .taken) (c .before .u32-at .ensures)
+    ready _ _ _ _ _ (z .pre) (v .state .given .0 .0) (v .before .before .decode .ensures) (v .state .given .1) (c .before .before .before .before .judge-state .ensures) (c .before .before .before .is-done .ensures) (c .before .before .if1 .taken) (c .before .u32-at .ensures)
 
 same-length : tie.Need-same-length
 same-length c = search needs
 
 returns-2 : tie.Need-returns-2
 returns-2 c =
-    let v = c .before .before .before .before .before .before .before .before .before .before in
+    let v = c .before .before .before .before .before .before .before .before .before in
     let z = v .before .before .before .before .before .before .before .before in
     let n = c .before .before .before .before .u32-at .ensures in
-    let plays = start-plays _ _ _ _ _ (z .pre) (v .state .given .0 .0) (v .before .before .decode .ensures) (v .state .given .1) (c .before .before .before .before .before .before .before .before .work-out .ensures) (c .before .before .before .before .before .before .is-done .ensures) (c .before .before .before .before .before .if1 .taken) n in
+    let plays = start-plays _ _ _ _ _ (z .pre) (v .state .given .0 .0) (v .before .before .decode .ensures) (v .state .given .1) (c .before .before .before .before .before .before .before .judge-state .ensures) (c .before .before .before .before .before .before .is-done .ensures) (c .before .before .before .before .before .if1 .taken) n in
     (c .before .before .play .ensures .0 ∙ ap (playEnd 0 0) plays, c .before .before .play .ensures .1 ∙ ap (λ (r : Ran). putAt (now (z .args .output)) 0 (sampleBytes (r .samples))) plays)
 
 returns-3 : tie.Need-returns-3
 returns-3 c =
-    let v = c .before .before .before .before .before in
+    let v = c .before .before .before .before in
     let z = v .before .before .before .before .before .before .before .before in
-    start-stops _ _ _ _ _ (z .pre) (v .state .given .0 .0) (v .before .before .decode .ensures) (v .state .given .1) (c .before .before .before .work-out .ensures) (c .before .is-done .ensures) (c .if1 .left) _
+    start-stops _ _ _ _ _ (z .pre) (v .state .given .0 .0) (v .before .before .decode .ensures) (v .state .given .1) (c .before .before .judge-state .ensures) (c .before .is-done .ensures) (c .if1 .left) _
 
 pub play-block-spec : {M : Type 1} → statement M
 play-block-spec =
@@ -69,7 +69,7 @@ play-block-spec =
     enum-told
     new-requires
     returns
-    work-out-requires
+    judge-state-requires
     is-done-requires
     u32-at-requires
     cast-count

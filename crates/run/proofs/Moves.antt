@@ -1,0 +1,179 @@
+-- Events in a row that are no samples: what the loop has done, and what is left of it, is the whole row; and the row is the plain machine's.
+use Prim.Native.Nat.{ℕ, zero, suc, _+_, _*_, _≤_, _<_}
+use native.Mathlib.Omega.{arith}
+use native.Mathlib.Nat.{zero-add, add-zero}
+use mathlib.Core.Path.{_≡_, refl, sym, ap, _∙_, subst}
+use mathlib.Core.Bool.{Bool, true, false, cond, true≢false}
+use mathlib.Core.List.{List, [], _∷_}
+use lib.ListN.{length, drop}
+use Rattle.answers.specs.declared.Answer.{Answer}
+use Rattle.answers.specs.declared.Answer.the-variants.{Done}
+use Rattle.answers.specs.Answers.{isDoneOf}
+use Rattle.answers.proofs.Laws.{done-is}
+use Rattle.control.specs.declared.State.{State}
+use Rattle.control.specs.Block.{validOf}
+use Rattle.controls.specs.Judging.{judgeControlsOf}
+use Rattle.script.specs.declared.Event.{Event}
+use Rattle.script.specs.declared.Event.the-variants.{CutoffLow, CutoffHigh, Routing, Mode, Sample, Reset}
+use Rattle.script.specs.declared.Decoded.the-variants.{Readable, Unreadable}
+use Rattle.script.specs.Script as S
+use Rattle.script.specs.Script.{eventAt, allReadable, eventsIn, samplesOf}
+use Rattle.script.proofs.Laws.{slicesFrom, all-next, events-next, all-stop, events-end}
+use Rattle.filter.specs.Core.{judgeLentOf}
+use Rattle.filter.specs.Plain.{Plain, plainChange, plainStep}
+use Rattle.run.specs.declared.Asked.{Asked}
+use Rattle.run.specs.declared.Changed.{Changed}
+use Rattle.run.specs.declared.Moved.{Moved}
+use Rattle.run.specs.Run.{Ran, stopped, went, playOf}
+use Rattle.run.specs.Rows.{Moves, askedOf, nextOf, noMoves, oneMove, movesOf, movesEnd}
+use Rattle.run.specs.Parts.{changedTo}
+use Rattle.run.proofs.Changes.{next-valid, plain-is}
+use Rattle.run.proofs.Cutting.{Good, good-step}
+
+-- ---- the loop
+
+module _ (bundle script : List ℕ) (count start : ℕ) (from : State) where
+  abbrev left : ℕ → List Event
+  left i = eventsIn (slicesFrom script count i)
+
+  abbrev moves : State → ℕ → Moves
+  moves s i = movesOf bundle s (left i)
+
+  -- before event i
+  pub record Sofar (s : State) (i : ℕ) : Type 0 where
+    pub within : i ≤ count
+    pub readable : allReadable (slicesFrom script count i) ≡ true
+    pub valid : validOf s ≡ true
+    pub judged : judgeControlsOf bundle s ≡ Done
+    pub ends : movesEnd i (moves s i) ≡ movesEnd start (moves from start)
+
+  pub sofar-start : start ≤ count → validOf from ≡ true → judgeControlsOf bundle from ≡ Done → allReadable (slicesFrom script count start) ≡ true → Sofar from start
+  sofar-start w v j r = record { within = w; readable = r; valid = v; judged = j; ends = refl }
+
+  module _ (s : State) (i : ℕ) (far : Sofar s i) where
+    abbrev Ends : Answer → Type 0
+    Ends answer = _≡_ {A = Moved} (record { answer = answer; events = i; state = s }) (movesEnd start (moves from start))
+
+    stops : (answer : Answer) → moves s i ≡ noMoves answer s → Ends answer
+    stops answer h = sym (ap (movesEnd i) h ∙ rw (add-zero i) refl) ∙ far .ends
+
+    pub at-end : count ≤ i → Ends Done
+    unfolding movesOf
+    at-end h = stops Done (ap (movesOf bundle s) (events-end script count i h))
+
+    module _ (more : i < count) where
+      pub unreadable : eventAt script (8 + 12 * i) ≡ Unreadable → ⊥
+      unreadable h = true≢false (sym (far .readable) ∙ all-stop script count i more h)
+
+      module _ (e : Event) (is : eventAt script (8 + 12 * i) ≡ Readable e) {ask : Asked} (asks : ask ≡ askedOf e) where
+        asked-is : (b : Bool) → ask .sample ≡ b → askedOf e .sample ≡ b
+        asked-is b h = ap (λ (a : Asked). a .sample) (sym asks) ∙ h
+
+        next : left i ≡ e ∷ left (i + 1)
+        next = events-next script count i more e is
+
+        pub sampled : ask .sample ≡ true → Ends Done
+        unfolding movesOf
+        sampled a = stops Done (ap (movesOf bundle s) next ∙ rw (asked-is true a) refl)
+
+        module _ (other : ask .sample ≡ false) {c : Changed} (is-c : c ≡ changedTo (judgeControlsOf bundle (nextOf s e)) (nextOf s e)) {d : Bool} (is-d : d ≡ isDoneOf (c .answer)) where
+          judged-here : (b : Bool) → d ≡ b → isDoneOf (judgeControlsOf bundle (nextOf s e)) ≡ b
+          judged-here b h = ap (λ (x : Changed). isDoneOf (x .answer)) (sym is-c) ∙ sym is-d ∙ h
+
+          pub refused : d ≡ false → Ends (c .answer)
+          unfolding movesOf
+          refused h = rw is-c (stops (judgeControlsOf bundle (nextOf s e)) (ap (movesOf bundle s) next ∙ rw (asked-is false other, judged-here false h) refl))
+
+          pub moved : d ≡ true → Sofar (c .state) (i + 1)
+          unfolding movesOf
+          moved h =
+              let t = nextOf s e in
+              let whole : moves s i ≡ oneMove (moves t (i + 1)) = ap (movesOf bundle s) next ∙ rw (asked-is false other, judged-here true h) refl in
+              let events : i + 1 + moves t (i + 1) .events ≡ i + suc (moves t (i + 1) .events) = omega arith in
+              rw is-c
+              (record {
+                within = omega arith;
+                readable = sym (all-next script count i more e is) ∙ far .readable;
+                valid = next-valid s (far .valid) e;
+                judged = done-is (judgeControlsOf bundle t) (judged-here true h);
+                ends = rw events (sym (ap (movesEnd i) whole) ∙ far .ends);
+              })
+
+-- ---- the row is the plain machine's
+
+-- no sample is passed over
+other-none : (e : Event) → askedOf e .sample ≡ false → S.sampleOf e ≡ 0
+other-none (CutoffLow v) h = refl
+other-none (CutoffHigh v) h = refl
+other-none (Routing v) h = refl
+other-none (Mode v) h = refl
+other-none (Sample sum energy) h = absurd (true≢false h)
+other-none Reset h = refl
+
+module _ (bundle curves : List ℕ) (lent : judgeLentOf bundle curves ≡ Done) where
+  -- the row, and then the rest if it was not refused
+  abbrev movesThen : Moves → Ran → Ran
+  movesThen m r =
+      cond (isDoneOf (m .answer))
+      (record { answer = r .answer; events = m .events + r .events; samples = r .samples; state = r .state })
+      (record { answer = m .answer; events = m .events; samples = []; state = m .state })
+
+  pub record MovesLaw (s : State) (es : List Event) (m : Moves) : Type 0 where
+    pub same : playOf bundle curves s es ≡ movesThen m (playOf bundle curves (m .state) (drop (m .events) es))
+    pub good : Good bundle curves (m .state)
+    pub within : m .events ≤ length es
+    pub rest : samplesOf es ≡ samplesOf (drop (m .events) es)
+
+  module _ (s : State) (good : Good bundle curves s) where
+    quiet : (es : List Event) → MovesLaw s es (noMoves Done s)
+    quiet es = record { same = rw (zero-add (playOf bundle curves s es .events)) refl; good = good; within = omega arith; rest = refl }
+
+    module _ (e : Event) (es : List Event) (other : askedOf e .sample ≡ false) where
+      plain : plainStep bundle curves s e ≡ plainChange bundle s (nextOf s e)
+      plain = plain-is bundle curves s e other
+
+      stop : isDoneOf (judgeControlsOf bundle (nextOf s e)) ≡ false → MovesLaw s (e ∷ es) (noMoves (judgeControlsOf bundle (nextOf s e)) s)
+      unfolding playOf
+      stop h = record { same = rw (plain, h, h) refl; good = good; within = omega arith; rest = refl }
+
+      more : isDoneOf (judgeControlsOf bundle (nextOf s e)) ≡ true → (m : Moves) → MovesLaw (nextOf s e) es m → MovesLaw s (e ∷ es) (oneMove m)
+      unfolding playOf samplesOf
+      more h m law =
+          record {
+            same = rw (plain, h) (ap (went (record { answer = Done; sample = []; state = nextOf s e })) (law .same) ∙ on (isDoneOf (m .answer)) (playOf bundle curves (m .state) (drop (m .events) es)));
+            good = law .good;
+            within = omega (arith, law .within);
+            rest = omega (arith, law .rest, other-none e other);
+          }
+        where
+          on : (d : Bool) (r : Ran)
+              → went (record { answer = Done; sample = []; state = nextOf s e })
+              (cond d (record { answer = r .answer; events = m .events + r .events; samples = r .samples; state = r .state }) (record { answer = m .answer; events = m .events; samples = []; state = m .state }))
+              ≡ cond d (record { answer = r .answer; events = suc (m .events) + r .events; samples = r .samples; state = r .state }) (record { answer = m .answer; events = suc (m .events); samples = []; state = m .state })
+          on true r = let k : suc (m .events + r .events) ≡ suc (m .events) + r .events = omega arith in rw k refl
+          on false r = refl
+
+  pub moves-law : (s : State) (es : List Event) → Good bundle curves s → MovesLaw s es (movesOf bundle s es)
+  unfolding movesOf
+  moves-law s [] good = quiet s good []
+  moves-law s (e ∷ es) good = go (askedOf e .sample) refl (isDoneOf (judgeControlsOf bundle (nextOf s e))) refl (λ g. moves-law (nextOf s e) es g)
+    where
+      next-good : askedOf e .sample ≡ false → isDoneOf (judgeControlsOf bundle (nextOf s e)) ≡ true → Good bundle curves (nextOf s e)
+      next-good a h = record { valid = next-valid s (good .valid) e; judged = done-is (judgeControlsOf bundle (nextOf s e)) h }
+
+      go : (a : Bool) → askedOf e .sample ≡ a → (d : Bool) → isDoneOf (judgeControlsOf bundle (nextOf s e)) ≡ d → (Good bundle curves (nextOf s e) → MovesLaw (nextOf s e) es (movesOf bundle (nextOf s e) es))
+          → MovesLaw s (e ∷ es) (cond a (noMoves Done s) (cond d (oneMove (movesOf bundle (nextOf s e) es)) (noMoves (judgeControlsOf bundle (nextOf s e)) s)))
+      go true a d h on = quiet s good (e ∷ es)
+      go false a true h on = more s good e es a h (movesOf bundle (nextOf s e) es) (on (next-good a h))
+      go false a false h on = stop s good e es a h
+
+  -- where it is not refused, an event that is no sample is gone
+  pub moves-some : (s : State) (e : Event) (es : List Event) → askedOf e .sample ≡ false → isDoneOf (movesOf bundle s (e ∷ es) .answer) ≡ true → zero < movesOf bundle s (e ∷ es) .events
+  unfolding movesOf
+  moves-some s e es other = rw other (go (isDoneOf (judgeControlsOf bundle (nextOf s e))) refl)
+    where
+      go : (d : Bool) → isDoneOf (judgeControlsOf bundle (nextOf s e)) ≡ d
+          → isDoneOf (cond d (oneMove (movesOf bundle (nextOf s e) es)) (noMoves (judgeControlsOf bundle (nextOf s e)) s) .answer) ≡ true
+          → zero < cond d (oneMove (movesOf bundle (nextOf s e) es)) (noMoves (judgeControlsOf bundle (nextOf s e)) s) .events
+      go true h done = omega arith
+      go false h done = absurd (true≢false (sym done ∙ h))

@@ -1,0 +1,32 @@
+use borrow.Author.Needs.{needs}
+use Rattle.run.proofs.judge_state.Statement.{statement}
+use Rattle.run.proofs.judge_state.Tie as tie
+
+effective-cutoff-requires : tie.Need-effective-cutoff-requires
+effective-cutoff-requires c κs = search needs
+
+judge-filter-requires : tie.Need-judge-filter-requires
+judge-filter-requires c κs = search needs
+
+gain-of-requires : tie.Need-gain-of-requires
+gain-of-requires c κs = search needs
+
+gain-answer-requires : tie.Need-gain-answer-requires
+gain-answer-requires c κs = search needs
+
+first-requires : tie.Need-first-requires
+first-requires c κs = search needs
+
+returns : tie.Need-returns
+returns c = simp (c .first .ensures, c .before .gain-answer .ensures, c .before .before .gain-of .ensures, c .before .before .before .judge-filter .ensures, c .before .before .before .before .effective-cutoff .ensures)
+
+pub judge-state-spec : {M : Type 1} → statement M
+judge-state-spec =
+    tie.close
+    (tie.spec
+    effective-cutoff-requires
+    judge-filter-requires
+    gain-of-requires
+    gain-answer-requires
+    first-requires
+    returns)
