@@ -4,3 +4,4 @@ pub mod Cutting
 pub mod Changes
 pub mod Loop
 pub mod Whole
+pub mod ShutOut
