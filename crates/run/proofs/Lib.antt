@@ -5,3 +5,4 @@ pub mod Changes
 pub mod Moves
 pub mod Loop
 pub mod Whole
+pub mod ShutOut
