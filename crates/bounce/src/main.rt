@@ -1,0 +1,5 @@
+// test
+mod lines;
+mod text;
+
+fn main() {}
