@@ -2,15 +2,27 @@
 use Prim.Native.Nat.{ℕ, zero, suc, _+_, _-_, _*_, _/_, _%_, _^_, _≤_, _<_}
 use mathlib.Core.Path.{_≡_, refl, ap, sym, _∙_}
 use mathlib.Core.Logic.{⊎-elim}
+use mathlib.Core.Bool.{Bool, true, false, cond}
 use mathlib.Core.List.{List, _++_, append-assoc}
 use native.Mathlib.Omega.{arith}
 use native.Mathlib.Nat.{pow-suc, one-le-pow, pow-le-pow-right}
 use lib.Dec.{lit<}
-use lib.ListN.{length, take, length-append}
-use lib.Seq.{length-take-le, take-all, take-length, take-append-le, take-append-add, take-take, paste, take-paste}
-use borrow.Author.Tests.{lt-ltb, le-ltb}
+use lib.ListN.{length, take, drop, length-append, length-drop}
+use lib.Seq.{length-take-le, take-all, take-length, take-append-le, take-append-add, take-at, take-take, paste, take-paste}
+use borrow.Author.Tests.{lt-ltb, le-ltb, eq-eqb}
+use Rattle.io.specs.Counts.{Counts}
 use Rattle.io.specs.Digits.{digits, Fewest}
 use Rattle.wire.proofs.Laws.{le-or-lt}
+use Rattle.answers.specs.Answers.{isDoneOf}
+use Rattle.control.specs.declared.State.{State}
+use Rattle.control.specs.Block.{blockOf, encodeOf, fieldsOf}
+use Rattle.control.proofs.Block.{block-long}
+use Rattle.script.specs.Script.{eventsOf}
+use Rattle.run.specs.Run.{playedOf, sampleBytes, judgeRunOf, leftOf, runOf}
+use Rattle.run.specs.declared.Ended.{Ended}
+use Rattle.run.specs.Rows.{endedOf}
+use Rattle.run.proofs.Bytes.{length-outputs}
+use Rattle.run.proofs.Whole.{run-most}
 use Rattle.bounce.specs.Text.{decimalIn, decimalOf, grown}
 
 -- ---- text in a buffer
@@ -77,3 +89,39 @@ decimal-is n (suc k) l f =
     let few = few-digits n (suc k) l f in
     let e : suc k - 1 ≡ k = omega arith in
     digits-in k 20 n (omega arith) (f .1) (λ h. rw e at (f .2 (omega arith)))
+
+-- ---- a run's samples
+
+-- The bytes of the samples that a run wrote lie in its output, whose length it keeps.
+module _ (bundle curves block script output : List ℕ) where
+  samples-in : length (runOf bundle curves block script output .output) ≡ length output → 16 * runOf bundle curves block script output .samples ≤ length output
+  unfolding runOf
+  samples-in = go (isDoneOf (judgeRunOf bundle curves block script (length output)))
+    where
+      go : (d : Bool)
+          → length (cond d (leftOf (playedOf bundle curves (fieldsOf block) (eventsOf script)) output) (record { answer = judgeRunOf bundle curves block script (length output); events = 0; samples = 0; state = block; output = output }) .output) ≡ length output
+          → 16 * cond d (leftOf (playedOf bundle curves (fieldsOf block) (eventsOf script)) output) (record { answer = judgeRunOf bundle curves block script (length output); events = 0; samples = 0; state = block; output = output }) .samples ≤ length output
+      go true e =
+          let ran = playedOf bundle curves (fieldsOf block) (eventsOf script) in
+          omega (arith, length-append (sampleBytes (ran .samples)) (drop (16 * length (ran .samples)) output), length-outputs (ran .samples), length-drop (16 * length (ran .samples)) output)
+      go false e = omega arith
+
+  -- the same of what the run answers
+  module _ {e : Ended} (is : e ≡ endedOf (runOf bundle curves block script output)) where
+    pub samples-fit : 16 * e .samples < 2 ^ 64
+    samples-fit = rw is (omega (arith, run-most bundle curves block script output .1))
+
+    pub samples-count : {after : List ℕ} → after ≡ runOf bundle curves block script output .output → length after ≡ length output → Counts (16 * e .samples) after
+    samples-count {after} w l =
+        let h : 16 * e .samples ≤ length after = rw is (omega (arith, samples-in (ap length (sym w) ∙ l))) in
+        (h, sym (length-take-le (16 * e .samples) after h))
+
+-- ---- a state's block at the start of a buffer
+
+pub started : (s : State) (d block : List ℕ) → 24 ≤ length d → block ≡ encodeOf s (take 24 d) → Counts 24 (block ++ drop 24 d) × (take 24 (block ++ drop 24 d) ≡ blockOf s)
+unfolding encodeOf
+started s d block h e =
+    let is : block ≡ blockOf s = e ∙ rw (eq-eqb (length (take 24 d)) 24 (length-take-le 24 d h)) in
+    let long : length block ≡ 24 = ap length is ∙ block-long s in
+    let t = take-at block (drop 24 d) 24 long in
+    ((omega (arith, length-append block (drop 24 d)), sym (ap length t ∙ long)), t ∙ is)
