@@ -1,13 +1,10 @@
 // Files, whole.
 ghost use mathlib.Core.Path.{_≡_};
-ghost use mathlib.Core.List.{_++_};
 ghost use Prim.Native.Nat.{_≤_};
 ghost use lib.ListN.{length, take};
 ghost use Rattle.io.specs.Counts.{Counts};
 ghost use Rattle.control.specs.Registers.{startingState};
 ghost use Rattle.control.specs.Block.{blockOf};
-ghost use Rattle.bounce.specs.Text.{ascii, grown};
-use crate::text::push;
 use control::State;
 
 // Whether a file was read to its end, or as far as the buffer goes, and how many bytes came.
@@ -75,7 +72,7 @@ pub(crate) fn load_state(path: &[u8], block: &mut [u8]) -> Loaded
 // Puts bytes in the place of a file's: they are written beside it and then take its name, so that it never holds a part of them.
 pub(crate) fn save(path: &[u8], bytes: &[u8]) -> bool {
     let mut name = [0u8; 4608];
-    let n = beside(&mut name, path);
+    let n = bounce_step::beside(&mut name, path);
     let fd = os::open_overwrite(&name[..n]);
     if fd < 0 {
         os::fail(&name[..n]);
@@ -95,13 +92,4 @@ pub(crate) fn save(path: &[u8], bytes: &[u8]) -> bool {
         return false;
     }
     true
-}
-
-// The name of the file that is written beside another.
-fn beside(out: &mut [u8], path: &[u8]) -> usize
-    ensures { λ r. ⌜ Counts r (now (out .exit)) ⌝ }
-    ensures { λ r. ⌜ take r (now (out .exit)) ≡ grown (now (out .entry)) 0 (now (path .entry) ++ ascii ".new") ⌝ }
-{
-    let n = push(out, 0, path);
-    push(out, n, b".new")
 }

@@ -1,9 +1,6 @@
 // bounce BUNDLE STATE OUTPUT SCRIPT..: runs each script from the state that the last one left, the first from the file STATE, or from the starting value where that
 // is missing. The samples go to OUTPUT, script by script, the end state to STATE, and a line a script to standard output, with a status in the last one.
 mod files;
-mod lines;
-mod step;
-mod text;
 
 use answers::Answer;
 use libc::STDOUT_FILENO;
@@ -62,7 +59,7 @@ fn open(name: &[u8], bundle: &[u8]) -> u32 {
 // Prints the line of a refusal before the first script, and answers its number.
 fn refuse(name: &[u8], answer: Answer) -> u32 {
     let mut line = line_room();
-    let end = lines::line(&mut line, name, answer, 0, 0);
+    let end = bounce_step::line(&mut line, name, answer, 0, 0);
     io::write_all(STDOUT_FILENO, &line[..end]);
     answers::report(answer).number
 }
@@ -158,7 +155,7 @@ fn play_script(
 ) -> u32 {
     let mut samples = sample_room();
     let mut line = line_room();
-    let stepped = step::step(bundle, curves, block, name, script, &mut samples, &mut line);
+    let stepped = bounce_step::step(bundle, curves, block, name, script, &mut samples, &mut line);
     let size = stepped.samples;
     let end = stepped.line;
     if !io::write_all(output, &samples[..size]) {

@@ -1,8 +1,8 @@
 use borrow.Author.Needs.{needs}
-use Rattle.bounce.specs.Lines.{lineOf}
-use Rattle.bounce.proofs.Laws.{grown-then}
-use Rattle.bounce.proofs.lines.line.Statement.{statement}
-use Rattle.bounce.proofs.lines.line.Tie as tie
+use Rattle.bounce_step.specs.Lines.{lineOf}
+use Rattle.bounce_step.proofs.Laws.{grown-then}
+use Rattle.bounce_step.proofs.lines.line.Statement.{statement}
+use Rattle.bounce_step.proofs.lines.line.Tie as tie
 
 push-requires : tie.Need-push-requires
 push-requires c κs = search needs

@@ -1,12 +1,12 @@
 use borrow.Author.Needs.{needs}
-use Rattle.bounce.specs.Lines.{placedOf}
-use Rattle.bounce.proofs.Laws.{grown-then}
-use Rattle.bounce.proofs.lines.push_placed.Statement.{statement}
-use Rattle.bounce.proofs.lines.push_placed.Tie as tie
-use Rattle.bounce.proofs.lines.push_placed.Reads as reads
-use Rattle.bounce.proofs.lines.push_placed.Lts as lts
-use Rattle.bounce.proofs.text.push.Reads as push-reads
-use Rattle.bounce.proofs.text.push_number.Reads as push-number-reads
+use Rattle.bounce_step.specs.Lines.{placedOf}
+use Rattle.bounce_step.proofs.Laws.{grown-then}
+use Rattle.bounce_step.proofs.lines.push_placed.Statement.{statement}
+use Rattle.bounce_step.proofs.lines.push_placed.Tie as tie
+use Rattle.bounce_step.proofs.lines.push_placed.Reads as reads
+use Rattle.bounce_step.proofs.lines.push_placed.Lts as lts
+use Rattle.bounce_step.proofs.text.push.Reads as push-reads
+use Rattle.bounce_step.proofs.text.push_number.Reads as push-number-reads
 
 -- src/lines.rt:19:9
 push-requires : tie.Need-push-requires

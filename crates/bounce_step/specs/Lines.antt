@@ -7,7 +7,7 @@ use Rattle.answers.specs.declared.Buffer.the-variants.{Bundle, Curves}
 use Rattle.answers.specs.declared.Answer.{Answer}
 use Rattle.answers.specs.declared.Answer.the-variants.{Done, BundleLength, Header, Entry, CurvesLength, InputNotFinite, Domain, Script, OutputLength, MixerInputs, Argument}
 use Rattle.answers.specs.Answers.{numberOf, isDoneOf}
-use Rattle.bounce.specs.Text.{ascii, decimalOf}
+use Rattle.bounce_step.specs.Text.{ascii, decimalOf}
 
 -- Words, and the place of which they speak.
 unfoldable pub placedOf : List ℕ → ℕ → List ℕ

@@ -3,8 +3,8 @@ ghost use mathlib.Core.Path.{_≡_};
 ghost use Prim.Native.Nat.{_≤_};
 ghost use lib.ListN.{length, take};
 ghost use Rattle.io.specs.Counts.{Counts};
-ghost use Rattle.bounce.specs.Text.{grown};
-ghost use Rattle.bounce.specs.Lines.{placedOf, wordsOf, countsOf, refusalOf, lineOf};
+ghost use Rattle.bounce_step.specs.Text.{grown};
+ghost use Rattle.bounce_step.specs.Lines.{placedOf, wordsOf, countsOf, refusalOf, lineOf};
 use crate::text::push;
 use crate::text::push_number;
 use answers::Answer;
@@ -81,13 +81,7 @@ fn push_refusal(out: &mut [u8], at: usize, answer: Answer) -> usize
 }
 
 // The line of a script, from the buffer's start. Answers where it ends.
-pub(crate) fn line(
-    out: &mut [u8],
-    name: &[u8],
-    answer: Answer,
-    events: usize,
-    samples: usize,
-) -> usize
+pub fn line(out: &mut [u8], name: &[u8], answer: Answer, events: usize, samples: usize) -> usize
     ensures { λ r. ⌜ Counts r (now (out .exit)) ⌝ }
     ensures { λ r. ⌜ take r (now (out .exit)) ≡ grown (now (out .entry)) 0 (lineOf (now (name .entry)) answer events samples) ⌝ }
 {

@@ -4,7 +4,7 @@ use mathlib.Core.List.{List}
 use lib.ListN.{take}
 use Rattle.answers.specs.Answers.{numberOf}
 use Rattle.run.specs.Run.{Run, runOf}
-use Rattle.bounce.specs.Lines.{lineOf}
+use Rattle.bounce_step.specs.Lines.{lineOf}
 
 pub record Step : Type 0 where
   pub number : ℕ

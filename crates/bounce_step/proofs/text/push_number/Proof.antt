@@ -1,11 +1,11 @@
 use mathlib.Core.Path.{_∙_}
 use borrow.Author.Needs.{needs}
-use Rattle.bounce.proofs.Laws.{decimal-is}
-use Rattle.bounce.proofs.text.push_number.Statement.{statement}
-use Rattle.bounce.proofs.text.push_number.Tie as tie
-use Rattle.bounce.proofs.text.push_number.Reads as reads
-use Rattle.bounce.proofs.text.push_number.Lts as lts
-use Rattle.bounce.proofs.text.push.Reads as push-reads
+use Rattle.bounce_step.proofs.Laws.{decimal-is}
+use Rattle.bounce_step.proofs.text.push_number.Statement.{statement}
+use Rattle.bounce_step.proofs.text.push_number.Tie as tie
+use Rattle.bounce_step.proofs.text.push_number.Reads as reads
+use Rattle.bounce_step.proofs.text.push_number.Lts as lts
+use Rattle.bounce_step.proofs.text.push.Reads as push-reads
 use Rattle.io.proofs.decimal.Reads as decimal-reads
 
 -- src/text.rt:33:9

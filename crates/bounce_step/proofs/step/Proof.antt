@@ -1,7 +1,7 @@
 use borrow.Author.Needs.{needs}
-use Rattle.bounce.proofs.Laws.{samples-fit, samples-count}
-use Rattle.bounce.proofs.step.step.Statement.{statement}
-use Rattle.bounce.proofs.step.step.Tie as tie
+use Rattle.bounce_step.proofs.Laws.{samples-fit, samples-count}
+use Rattle.bounce_step.proofs.step.Statement.{statement}
+use Rattle.bounce_step.proofs.step.Tie as tie
 
 run-requires : tie.Need-run-requires
 run-requires c κs = search needs

@@ -1,20 +1,25 @@
-// One script of a bounce, on lent buffers.
+// One script of a bounce, on lent buffers: its samples, the state that it leaves, and what is said of it.
+mod lines;
+mod text;
+
 ghost use mathlib.Core.Path.{_≡_};
+ghost use mathlib.Core.List.{_++_};
 ghost use lib.ListN.{take};
 ghost use Rattle.io.specs.Counts.{Counts};
-ghost use Rattle.bounce.specs.Text.{grown};
-ghost use Rattle.bounce.specs.Steps.{stepOf};
-use crate::lines;
+ghost use Rattle.bounce_step.specs.Text.{ascii, grown};
+ghost use Rattle.bounce_step.specs.Steps.{stepOf};
+pub use lines::line;
+use text::push;
 
 // Document 01's number for the answer, and how many bytes the samples and the line have.
-pub(crate) struct Stepped {
+pub struct Stepped {
     pub number: u32,
     pub samples: usize,
     pub line: usize,
 }
 
 // Runs a script from the state in its block. The samples stand at the output's start, the state after them in the block, and what is said of it in the line.
-pub(crate) fn step(
+pub fn step(
     bundle: &[u8],
     curves: &[u8],
     state: &mut [u8],
@@ -39,4 +44,13 @@ pub(crate) fn step(
         samples: 16 * ended.samples,
         line: end,
     }
+}
+
+// The name of the file that is written beside another.
+pub fn beside(out: &mut [u8], path: &[u8]) -> usize
+    ensures { λ r. ⌜ Counts r (now (out .exit)) ⌝ }
+    ensures { λ r. ⌜ take r (now (out .exit)) ≡ grown (now (out .entry)) 0 (now (path .entry) ++ ascii ".new") ⌝ }
+{
+    let n = push(out, 0, path);
+    push(out, n, b".new")
 }
