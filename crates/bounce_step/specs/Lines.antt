@@ -2,7 +2,6 @@
 use Prim.Native.Nat.{ℕ}
 use mathlib.Core.Bool.{cond}
 use mathlib.Core.List.{List, _++_}
-use Rattle.answers.specs.declared.Buffer.{Buffer}
 use Rattle.answers.specs.declared.Buffer.the-variants.{Bundle, Curves}
 use Rattle.answers.specs.declared.Answer.{Answer}
 use Rattle.answers.specs.declared.Answer.the-variants.{Done, BundleLength, Header, Entry, CurvesLength, InputNotFinite, Domain, Script, OutputLength, MixerInputs, Argument}

@@ -3,32 +3,22 @@ use Rattle.bounce_step.specs.Lines.{placedOf}
 use Rattle.bounce_step.proofs.Laws.{grown-then}
 use Rattle.bounce_step.proofs.lines.push_placed.Statement.{statement}
 use Rattle.bounce_step.proofs.lines.push_placed.Tie as tie
-use Rattle.bounce_step.proofs.lines.push_placed.Reads as reads
-use Rattle.bounce_step.proofs.lines.push_placed.Lts as lts
-use Rattle.bounce_step.proofs.text.push.Reads as push-reads
-use Rattle.bounce_step.proofs.text.push_number.Reads as push-number-reads
 
--- src/lines.rt:19:9
 push-requires : tie.Need-push-requires
 push-requires c κs = search needs
 
--- src/lines.rt:20:26
 slice-aggregate-push : tie.Need-slice-aggregate-push
 slice-aggregate-push c = search needs
 
--- src/lines.rt:20:9
 push-requires-2 : tie.Need-push-requires-2
 push-requires-2 c κs = search needs
 
--- src/lines.rt:21:5
 push-number-requires : tie.Need-push-number-requires
 push-number-requires c κs = search needs
 
--- src/lines.rt:14:1
 same-length : tie.Need-same-length
 same-length c = search needs
 
--- src/lines.rt:14:1
 returns : tie.Need-returns
 unfolding placedOf
 returns c =

@@ -3,32 +3,22 @@ use borrow.Author.Needs.{needs}
 use Rattle.bounce_step.proofs.Laws.{decimal-is}
 use Rattle.bounce_step.proofs.text.push_number.Statement.{statement}
 use Rattle.bounce_step.proofs.text.push_number.Tie as tie
-use Rattle.bounce_step.proofs.text.push_number.Reads as reads
-use Rattle.bounce_step.proofs.text.push_number.Lts as lts
-use Rattle.bounce_step.proofs.text.push.Reads as push-reads
-use Rattle.io.proofs.decimal.Reads as decimal-reads
 
--- src/text.rt:33:9
 decimal-requires : tie.Need-decimal-requires
 decimal-requires c κs = search needs
 
--- src/text.rt:34:19
 array-share-prefix-digits : tie.Need-array-share-prefix-digits
 array-share-prefix-digits c = search needs
 
--- src/text.rt:34:19
 slice-aggregate-push : tie.Need-slice-aggregate-push
 slice-aggregate-push c = search needs
 
--- src/text.rt:34:5
 push-requires : tie.Need-push-requires
 push-requires c κs = search needs
 
--- src/text.rt:27:1
 same-length : tie.Need-same-length
 same-length c = search needs
 
--- src/text.rt:27:1
 returns : tie.Need-returns
 returns c =
     let p = c .before .before .push in
