@@ -69,25 +69,29 @@ pub(crate) fn load_state(path: &[u8], block: &mut [u8]) -> Loaded
     }
 }
 
-// Puts bytes in the place of a file's: they are written beside it and then take its name, so that it never holds a part of them.
+// Puts bytes in the place of a file's: they are written beside it and then take its name, so that it never holds a part of them. Where that fails, it says so.
 pub(crate) fn save(path: &[u8], bytes: &[u8]) -> bool {
     let mut name = [0u8; 4608];
     let n = bounce_step::beside(&mut name, path);
-    let fd = os::open_overwrite(&name[..n]);
+    replace(&name[..n], path, bytes)
+}
+
+fn replace(beside: &[u8], path: &[u8], bytes: &[u8]) -> bool {
+    let fd = os::open_overwrite(beside);
     if fd < 0 {
-        os::fail(&name[..n]);
+        os::fail(beside);
         return false;
     }
     if !io::write_all(fd, bytes) {
-        os::fail(&name[..n]);
+        os::fail(beside);
         libc::close(fd);
         return false;
     }
     if libc::close(fd) < 0 {
-        os::fail(&name[..n]);
+        os::fail(beside);
         return false;
     }
-    if os::rename(&name[..n], path) < 0 {
+    if os::rename(beside, path) < 0 {
         os::fail(path);
         return false;
     }

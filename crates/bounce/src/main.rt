@@ -17,7 +17,7 @@ fn main() {
     io::write_all(STDOUT_FILENO, b"\n");
 }
 
-// Loads the bundle.
+// Finds the bundle's name. Each of these functions answers the status, and goes on with the next where it can.
 fn bounce() -> u32 {
     if os::arg_count() < 5 {
         io::write_all(
@@ -32,14 +32,19 @@ fn bounce() -> u32 {
         os::fail(b"BUNDLE");
         return UNREAD;
     }
+    load_bundle(&path[..n])
+}
+
+// Loads the bundle.
+fn load_bundle(path: &[u8]) -> u32 {
     let mut bundle = bundle_room();
-    let loaded = files::load(&path[..n], &mut bundle);
+    let loaded = files::load(path, &mut bundle);
     if !loaded.whole {
-        os::fail(&path[..n]);
+        os::fail(path);
         return UNREAD;
     }
     let size = loaded.size;
-    open(&path[..n], &bundle[..size])
+    open(path, &bundle[..size])
 }
 
 // Opens the bundle and builds its curves.
@@ -64,7 +69,7 @@ fn refuse(name: &[u8], answer: Answer) -> u32 {
     answers::report(answer).number
 }
 
-// Loads the state.
+// Finds the state's name.
 fn resume(bundle: &[u8], curves: &[u8]) -> u32 {
     let mut path = io::buffer();
     let n = os::arg(2, &mut path);
@@ -72,14 +77,19 @@ fn resume(bundle: &[u8], curves: &[u8]) -> u32 {
         os::fail(b"STATE");
         return UNREAD;
     }
+    load_state(bundle, curves, &path[..n])
+}
+
+// Loads the state.
+fn load_state(bundle: &[u8], curves: &[u8], path: &[u8]) -> u32 {
     let mut block = block_room();
-    let loaded = files::load_state(&path[..n], &mut block);
+    let loaded = files::load_state(path, &mut block);
     if !loaded.whole {
-        os::fail(&path[..n]);
+        os::fail(path);
         return UNREAD;
     }
     let size = loaded.size;
-    keep(bundle, curves, &path[..n], &mut block[..size])
+    keep(bundle, curves, path, &mut block[..size])
 }
 
 // Saves the state that the scripts leave, but not where the state was refused or samples may be missing from the output.
@@ -94,7 +104,7 @@ fn keep(bundle: &[u8], curves: &[u8], path: &[u8], block: &mut [u8]) -> u32 {
     UNWRITTEN
 }
 
-// Empties the output, or makes it, and plays the scripts into it.
+// Finds the output's name.
 fn render(bundle: &[u8], curves: &[u8], block: &mut [u8]) -> u32 {
     let mut path = io::buffer();
     let n = os::arg(3, &mut path);
@@ -102,14 +112,19 @@ fn render(bundle: &[u8], curves: &[u8], block: &mut [u8]) -> u32 {
         os::fail(b"OUTPUT");
         return UNWRITTEN;
     }
-    let output = os::open_overwrite(&path[..n]);
+    fill_output(bundle, curves, block, &path[..n])
+}
+
+// Empties the output, or makes it, and plays the scripts into it.
+fn fill_output(bundle: &[u8], curves: &[u8], block: &mut [u8], path: &[u8]) -> u32 {
+    let output = os::open_overwrite(path);
     if output < 0 {
-        os::fail(&path[..n]);
+        os::fail(path);
         return UNWRITTEN;
     }
     let status = play(bundle, curves, block, output);
     if libc::close(output) < 0 {
-        os::fail(&path[..n]);
+        os::fail(path);
         return UNWRITTEN;
     }
     status
@@ -118,7 +133,7 @@ fn render(bundle: &[u8], curves: &[u8], block: &mut [u8]) -> u32 {
 // The scripts in order, up to the first that is not done.
 fn play(bundle: &[u8], curves: &[u8], block: &mut [u8], output: i32) -> u32 {
     for i in 4..os::arg_count() {
-        let status = play_file(bundle, curves, block, i, output);
+        let status = play_argument(bundle, curves, block, i, output);
         if status != 0 {
             return status;
         }
@@ -126,22 +141,27 @@ fn play(bundle: &[u8], curves: &[u8], block: &mut [u8], output: i32) -> u32 {
     0
 }
 
-// Loads the script that an argument names, and plays it.
-fn play_file(bundle: &[u8], curves: &[u8], block: &mut [u8], i: usize, output: i32) -> u32 {
+// Finds a script's name.
+fn play_argument(bundle: &[u8], curves: &[u8], block: &mut [u8], i: usize, output: i32) -> u32 {
     let mut path = io::buffer();
     let n = os::arg(i, &mut path);
     if os::errno() != 0 {
         os::fail(b"SCRIPT");
         return UNREAD;
     }
+    play_file(bundle, curves, block, &path[..n], output)
+}
+
+// Loads a script and plays it.
+fn play_file(bundle: &[u8], curves: &[u8], block: &mut [u8], path: &[u8], output: i32) -> u32 {
     let mut script = script_room();
-    let loaded = files::load(&path[..n], &mut script);
+    let loaded = files::load(path, &mut script);
     if !loaded.whole {
-        os::fail(&path[..n]);
+        os::fail(path);
         return UNREAD;
     }
     let size = loaded.size;
-    play_script(bundle, curves, block, &path[..n], &script[..size], output)
+    play_script(bundle, curves, block, path, &script[..size], output)
 }
 
 // Runs a script, writes its samples and prints its line.

@@ -17,8 +17,8 @@ arg-count-requires c κs = tt
 loop-holds : tie.Need-loop-holds Inv-loop μ-loop
 loop-holds c = search needs
 
-play-file-requires : tie.Need-play-file-requires Inv-loop μ-loop
-play-file-requires c κs = tt
+play-argument-requires : tie.Need-play-argument-requires Inv-loop μ-loop
+play-argument-requires c κs = tt
 
 same-length : tie.Need-same-length Inv-loop μ-loop
 same-length c = search needs
@@ -49,7 +49,7 @@ play-spec =
     μ-loop
     arg-count-requires
     loop-holds
-    play-file-requires
+    play-argument-requires
     same-length
     returns
     add-i
