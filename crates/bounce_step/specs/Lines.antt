@@ -1,0 +1,44 @@
+-- What `bounce` says: each answer in words, and the line of a script.
+use Prim.Native.Nat.{ℕ}
+use mathlib.Core.Bool.{cond}
+use mathlib.Core.List.{List, _++_}
+use Rattle.answers.specs.declared.Buffer.the-variants.{Bundle, Curves}
+use Rattle.answers.specs.declared.Answer.{Answer}
+use Rattle.answers.specs.declared.Answer.the-variants.{Done, BundleLength, Header, Entry, CurvesLength, InputNotFinite, Domain, Script, OutputLength, MixerInputs, Argument}
+use Rattle.answers.specs.Answers.{numberOf, isDoneOf}
+use Rattle.bounce_step.specs.Text.{ascii, decimalOf}
+
+-- Words, and the place of which they speak.
+unfoldable pub placedOf : List ℕ → ℕ → List ℕ
+placedOf words place = words ++ ascii ", at byte " ++ decimalOf place
+
+-- Document 01's table "Where a call turns back", the column "cause", with the buffer and the place where it names them.
+unfoldable pub wordsOf : Answer → List ℕ
+wordsOf Done = ascii "nothing is refused"
+wordsOf BundleLength = ascii "the bundle is not 6,127,736 bytes long"
+wordsOf (Header place) = placedOf (ascii "the bundle's header differs") place
+wordsOf (Entry Bundle place) = placedOf (ascii "an entry of the bundle is unusable") place
+wordsOf (Entry Curves place) = placedOf (ascii "an entry of the curves is unusable") place
+wordsOf CurvesLength = ascii "the curve buffer is not 254,076 bytes long"
+wordsOf InputNotFinite = ascii "the input sum or the source energy is not finite"
+wordsOf Domain = ascii "a number would be outside the finite domain"
+wordsOf Script = ascii "the script's length is not 8 + 12 x count, or its offset, its count, an event's kind or its zero bytes are wrong"
+wordsOf OutputLength = ascii "the output is shorter than 16 bytes a sample event"
+wordsOf MixerInputs = ascii "there are more than 7 mixer inputs"
+wordsOf Argument = ascii "the state block is invalid"
+
+-- The events done and the samples written.
+unfoldable pub countsOf : ℕ → ℕ → List ℕ
+countsOf events samples = decimalOf events ++ ascii " events, " ++ decimalOf samples ++ ascii " samples"
+
+-- A refusal's number and its words.
+unfoldable pub refusalOf : Answer → List ℕ
+refusalOf answer = decimalOf (numberOf answer) ++ ascii ", " ++ wordsOf answer
+
+-- `song.scr: done, 5460 events, 5000 samples`, or
+-- `song.scr: stopped after 17 events, 12 samples: 5, the input sum or the source energy is not finite`, and a line end.
+unfoldable pub lineOf : List ℕ → Answer → ℕ → ℕ → List ℕ
+lineOf name answer events samples =
+    cond (isDoneOf answer)
+    (name ++ ascii ": done, " ++ countsOf events samples ++ ascii "\n")
+    (name ++ ascii ": stopped after " ++ countsOf events samples ++ ascii ": " ++ refusalOf answer ++ ascii "\n")

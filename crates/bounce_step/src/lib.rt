@@ -1,0 +1,56 @@
+// One script of a bounce, on lent buffers: its samples, the state that it leaves, and what is said of it.
+mod lines;
+mod text;
+
+ghost use mathlib.Core.Path.{_≡_};
+ghost use mathlib.Core.List.{_++_};
+ghost use lib.ListN.{take};
+ghost use Rattle.io.specs.Counts.{Counts};
+ghost use Rattle.bounce_step.specs.Text.{ascii, grown};
+ghost use Rattle.bounce_step.specs.Steps.{stepOf};
+pub use lines::line;
+use text::push;
+
+// Document 01's number for the answer, and how many bytes the samples and the line have.
+pub struct Stepped {
+    pub number: u32,
+    pub samples: usize,
+    pub line: usize,
+}
+
+// Runs a script from the state in its block. The samples stand at the output's start, the state after them in the block, and what is said of it in the line.
+pub fn step(
+    bundle: &[u8],
+    curves: &[u8],
+    state: &mut [u8],
+    name: &[u8],
+    script: &[u8],
+    output: &mut [u8],
+    line: &mut [u8],
+) -> Stepped
+    ensures { λ r. ⌜ r .number ≡ stepOf (now (bundle .entry)) (now (curves .entry)) (now (state .entry)) (now (name .entry)) (now (script .entry)) (now (output .entry)) .number ⌝ }
+    ensures { λ _. ⌜ now (state .exit) ≡ stepOf (now (bundle .entry)) (now (curves .entry)) (now (state .entry)) (now (name .entry)) (now (script .entry)) (now (output .entry)) .state ⌝ }
+    ensures { λ r. ⌜ take (r .samples) (now (output .exit)) ≡ stepOf (now (bundle .entry)) (now (curves .entry)) (now (state .entry)) (now (name .entry)) (now (script .entry)) (now (output .entry)) .samples ⌝ }
+    ensures { λ r. ⌜ take (r .line) (now (line .exit)) ≡ grown (now (line .entry)) 0 (stepOf (now (bundle .entry)) (now (curves .entry)) (now (state .entry)) (now (name .entry)) (now (script .entry)) (now (output .entry)) .line) ⌝ }
+    ensures { λ r. ⌜ Counts (r .samples) (now (output .exit)) ⌝ }
+    ensures { λ r. ⌜ Counts (r .line) (now (line .exit)) ⌝ }
+{
+    let ended = run::run(bundle, curves, state, script, output);
+    let answer = ended.answer;
+    let end = lines::line(line, name, answer, ended.events, ended.samples);
+    let told = answers::report(answer);
+    Stepped {
+        number: told.number,
+        samples: 16 * ended.samples,
+        line: end,
+    }
+}
+
+// The name of the file that is written beside another.
+pub fn beside(out: &mut [u8], path: &[u8]) -> usize
+    ensures { λ r. ⌜ Counts r (now (out .exit)) ⌝ }
+    ensures { λ r. ⌜ take r (now (out .exit)) ≡ grown (now (out .entry)) 0 (now (path .entry) ++ ascii ".new") ⌝ }
+{
+    let n = push(out, 0, path);
+    push(out, n, b".new")
+}
