@@ -9,7 +9,7 @@ use lib.ListN.{length, take, drop, length-append, length-drop, take-append-drop}
 use lib.Seq.{drop-at}
 use lib.Ieee.Scale.{finite}
 use Rattle.answers.specs.declared.Answer.{Answer}
-use Rattle.answers.specs.declared.Answer.the-variants.{Done, InputNotFinite, MixerInputs}
+use Rattle.answers.specs.declared.Answer.the-variants.{Done, InputNotFinite, MixerInputs, Argument}
 use Rattle.answers.specs.Answers.{firstOf, unlessOf, isDoneOf}
 use Rattle.answers.proofs.Laws.{done-is}
 use Rattle.control.specs.declared.State.{State}
@@ -24,10 +24,10 @@ use Rattle.script.specs.declared.Event.{Event}
 use Rattle.script.specs.declared.Event.the-variants.{CutoffLow, CutoffHigh, Routing, Mode, Sample, Reset}
 use Rattle.script.specs.Script.{eventsOf, sampleOf, samplesOf}
 use Rattle.script.proofs.Cut.{samples-append}
-use Rattle.filter.specs.Core.{freshTopologyOf}
+use Rattle.filter.specs.Core.{freshTopologyOf, judgeLentOf}
 use Rattle.filter.specs.Plain.{Plain, refusedAt, plainChange, plainTaken, plainSample, plainStep, plainTrace}
 use Rattle.filter.proofs.Demand3.{refuses, sample-refuses}
-use Rattle.run.specs.Run.{Ran, stopped, went, playOf, playedOf, sampleBytes, judgeRunOf, Run, leftOf, runOf}
+use Rattle.run.specs.Run.{Ran, stopped, went, playOf, playedOf, sampleBytes, judgeBlockOf, judgeRunOf, Run, leftOf, runOf}
 use Rattle.run.proofs.Bytes.{length-outputs}
 use Rattle.run.proofs.Whole.{roomy}
 
@@ -59,6 +59,27 @@ module _ (bundle curves : List ℕ) where
   unfolding playOf plainTrace
   play-all s [] h = refl
   play-all s (e ∷ es) h = rw (h .0) (play-all (plainStep bundle curves s e .state) es (h .1))
+
+  play-none : (s : State) (es : List Event) → playOf bundle curves s es .answer ≡ Done → AllDone (plainTrace bundle curves s es)
+  unfolding playOf plainTrace
+  play-none s [] h = tt
+  play-none s (e ∷ es) h = let p = plainStep bundle curves s e in go (isDoneOf (p .answer)) p (playOf bundle curves (p .state) es) refl (play-none (p .state) es) h
+    where
+      go : (d : Bool) (p : Plain) (r : Ran) → isDoneOf (p .answer) ≡ d → (r .answer ≡ Done → AllDone (plainTrace bundle curves (p .state) es))
+          → cond d (went p r) (stopped (p .answer) s) .answer ≡ Done → (p .answer ≡ Done) × AllDone (plainTrace bundle curves (p .state) es)
+      go true p r is rest h = (done-is (p .answer) is, rest h)
+      go false p r is rest h = absurd (true≢false (sym (ap isDoneOf h) ∙ is))
+
+  -- the event after those that were done, if there is one, gives the answer
+  play-stops : (s : State) (es : List Event) → firstAnswer bundle curves (playOf bundle curves s es .state) (drop (playOf bundle curves s es .events) es) ≡ playOf bundle curves s es .answer
+  unfolding playOf
+  play-stops s [] = refl
+  play-stops s (e ∷ es) = let p = plainStep bundle curves s e in go (isDoneOf (p .answer)) p (playOf bundle curves (p .state) es) refl (play-stops (p .state) es)
+    where
+      go : (d : Bool) (p : Plain) (r : Ran) → p ≡ plainStep bundle curves s e → firstAnswer bundle curves (r .state) (drop (r .events) es) ≡ r .answer
+          → firstAnswer bundle curves (cond d (went p r) (stopped (p .answer) s) .state) (drop (cond d (went p r) (stopped (p .answer) s) .events) (e ∷ es)) ≡ cond d (went p r) (stopped (p .answer) s) .answer
+      go true p r is rest = rest
+      go false p r is rest = ap (λ (q : Plain). q .answer) (sym is)
 
   -- The events done, played alone, end without a refusal where the whole list stopped.
   play-done : (s : State) (es : List Event) → playOf bundle curves s (take (playOf bundle curves s es .events) es) ≡ upTo (playOf bundle curves s es)
@@ -213,3 +234,21 @@ module _ (bundle curves block script output : List ℕ) where
       × (playOf bundle curves start (take (ran .events) events) .events ≡ ran .events)
       × (ran .state ≡ blockOf (playOf bundle curves start (take (ran .events) events) .state))
   state-before-the-refused h = rw (run-left h, played-done bundle curves start events) (refl, refl, refl)
+
+  -- Of the events done none was refused, and the run's answer is that of the event after them, if there is one: it does not go on after a refusal.
+  pub stops-at-the-refused : judged ≡ Done → started ≡ Done
+      → AllDone (plainTrace bundle curves start (take (ran .events) events))
+      × (ran .answer ≡ firstAnswer bundle curves (playOf bundle curves start (take (ran .events) events) .state) (drop (ran .events) events))
+  unfolding playedOf
+  stops-at-the-refused h c =
+      let r = playOf bundle curves start events in
+      let done = play-done bundle curves start events in
+      rw (run-left h, c) (
+        play-none bundle curves start (take (r .events) events) (ap (λ (t : Ran). t .answer) done),
+        rw done (sym (play-stops bundle curves start events)),
+      )
+
+  -- 10 comes before 7 and 8.
+  pub block-before-script : judgeLentOf bundle curves ≡ Done → judgeBlockOf block ≡ Argument → ran .answer ≡ Argument
+  unfolding runOf judgeRunOf
+  block-before-script l b = rw (l, b) refl
