@@ -6,7 +6,7 @@ use mathlib.Core.List.{List, [], _∷_, map}
 use native.Mathlib.Omega.{arith}
 use Rattle.answers.specs.declared.Answer.the-variants.{Done}
 use Rattle.answers.specs.declared.Buffer.the-variants.{Bundle}
-use Rattle.wire.specs.Wire.{sixteenAt, u32At, usable, usableAt, allUsable}
+use Rattle.wire.specs.Wire.{sixteenAt, u32At, usableAt, allUsable}
 use Rattle.bundle.specs.Layout.{integratorGainPlace, dampingPlace, sourceGainModulationPlace}
 use Rattle.bundle.specs.Opening.{judgePlacesOf}
 use Rattle.bundle.proofs.Laws.{judge-append}
