@@ -6,13 +6,13 @@ use mathlib.Core.List.{List, [], _∷_, map}
 use native.Mathlib.Omega.{arith}
 use Rattle.answers.specs.declared.Answer.the-variants.{Done}
 use Rattle.answers.specs.declared.Buffer.the-variants.{Bundle}
-use Rattle.wire.specs.Wire.{sixteenAt, u32At, usable, usableAt}
+use Rattle.wire.specs.Wire.{sixteenAt, u32At, usableAt, allUsable}
 use Rattle.bundle.specs.Layout.{integratorGainPlace, dampingPlace, sourceGainModulationPlace}
 use Rattle.bundle.specs.Opening.{judgePlacesOf}
 use Rattle.bundle.proofs.Laws.{judge-append}
 use Rattle.controls.specs.Controls.{integratorGainOf}
 use Rattle.controls.specs.Judging.{judgeFilterOf}
-use Rattle.kept.specs.Kept.{allUsable, usableGainsOf, gainsOf, judgeFilterIfOf}
+use Rattle.kept.specs.Kept.{usableGainsOf, gainsOf, judgeFilterIfOf}
 
 both : (a b : Bool) → (a && b) ≡ true → (a ≡ true) × (b ≡ true)
 both true b e = (refl, e)

@@ -1,6 +1,6 @@
 -- What a run keeps of the controls, by the part that a write changes, with what is refused beside each part.
 use Prim.Native.Nat.{ℕ, _%_}
-use mathlib.Core.Bool.{Bool, true, cond, _&&_}
+use mathlib.Core.Bool.{Bool, cond, _&&_}
 use mathlib.Core.List.{List, [], _∷_}
 use lib.Dec.{eqb}
 use lib.ListN.{getD}
@@ -11,7 +11,7 @@ use Rattle.answers.specs.declared.Answer.{Answer}
 use Rattle.answers.specs.declared.Answer.the-variants.{Done, Domain}
 use Rattle.answers.specs.Answers.{firstOf, unlessOf}
 use Rattle.floats.specs.Arithmetic.{f32}
-use Rattle.wire.specs.Wire.{usable}
+use Rattle.wire.specs.Wire.{allUsable}
 use Rattle.bundle.specs.declared.Read.{Read}
 use Rattle.bundle.specs.Layout.{highpassLoadingPlace, directionalPowerPlace}
 use Rattle.bundle.specs.Opening.{entryAt}
@@ -50,11 +50,7 @@ coreRefreshedOf bundle cutoff resonance =
     let f = filterControlsOf bundle cutoff resonance in
     record { answer = judgeFilterOf bundle cutoff resonance; «integrator_gain» = f .«integrator_gain»; core = coreControlsOf f }
 
--- words that are each usable, and sixteen of them; their floats
-abbrev pub allUsable : List ℕ → Bool
-allUsable [] = true
-allUsable (w ∷ ws) = usable w && allUsable ws
-
+-- sixteen words that are each usable; their floats
 unfoldable pub usableGainsOf : List ℕ → Bool
 usableGainsOf w =
     allUsable

@@ -1,5 +1,6 @@
 // What a run keeps of the controls: `refresh_core` and `refresh_gain` work it out by the part that a write changes, each entry read once.
 ghost use mathlib.Core.Path.{_≡_};
+ghost use Rattle.controls.specs.Judging.{judgeFilterOf};
 ghost use Rattle.kept.specs.Kept as K;
 use answers::Answer;
 use answers::Buffer;
@@ -107,6 +108,19 @@ fn judge_filter_if(unusable: bool, bundle: &[u8], code: u16, resonance: u8) -> A
         return controls::judge_filter(bundle, code, resonance);
     }
     Answer::Done
+}
+
+// What `refresh_filter_controls` refuses, each entry judged by its word and no value made of it.
+pub fn judge_core(bundle: &[u8], cutoff: u16, resonance: u8) -> Answer
+    ensures { λ r. ⌜ r ≡ judgeFilterOf (now (bundle .entry)) cutoff resonance ⌝ }
+{
+    let usable = wire::sixteen_usable(bundle, bundle::integrator_gain_place(cutoff, resonance, 0))
+        & wire::usable_at(bundle, bundle::damping_place(resonance) as usize)
+        & wire::usable_at(
+            bundle,
+            bundle::source_gain_modulation_place(cutoff) as usize,
+        );
+    judge_filter_if(!usable, bundle, cutoff, resonance)
 }
 
 // `refresh_filter_controls`, each entry read once.

@@ -3,3 +3,4 @@ pub mod Floats
 pub mod Signed
 pub mod First
 pub mod Magnitude
+pub mod Sixteens

@@ -1,6 +1,6 @@
 -- Little-endian numbers and floats in a list of bytes: what stands at a place, and the list with bytes written at a place.
 use Prim.Native.Nat.{ℕ, zero, suc, _+_, _*_, _/_, _%_, _^_, _<_}
-use mathlib.Core.Bool.{Bool, cond}
+use mathlib.Core.Bool.{Bool, true, cond, _&&_}
 use mathlib.Core.List.{List, [], _∷_, _++_}
 use lib.ListN.{length, getD, take, drop}
 use lib.Dec.{leb, ltb}
@@ -41,7 +41,10 @@ u16At s p = numberAt 2 s p
 abbrev pub u32At : List ℕ → ℕ → ℕ
 u32At s p = numberAt 4 s p
 
--- The sixteen numbers of four bytes from p on.
+-- The four numbers of four bytes from p on, and the sixteen.
+abbrev pub fourAt : List ℕ → ℕ → List ℕ
+fourAt s p = u32At s p ∷ u32At s (p + 4) ∷ u32At s (p + 8) ∷ u32At s (p + 12) ∷ []
+
 abbrev pub sixteenAt : List ℕ → ℕ → List ℕ
 sixteenAt s p =
     u32At s p ∷ u32At s (p + 4) ∷ u32At s (p + 8) ∷ u32At s (p + 12) ∷ u32At s (p + 16) ∷ u32At s (p + 20) ∷ u32At s (p + 24) ∷ u32At s (p + 28)
@@ -65,6 +68,11 @@ usable b = leb (b % 2 ^ 31) 0x4480_0000
 -- The entry at p is usable.
 abbrev pub usableAt : List ℕ → ℕ → Bool
 usableAt s p = usable (u32At s p)
+
+-- Each of the patterns is usable.
+abbrev pub allUsable : List ℕ → Bool
+allUsable [] = true
+allUsable (b ∷ bs) = usable b && allUsable bs
 
 -- Finite: below the infinity's bits.
 unfoldable pub finiteBits : ℕ → Bool

@@ -7,7 +7,7 @@ ghost use lib.ListN.{length};
 ghost use lib.Ieee.{binary32, ofBits, toBits};
 ghost use mir.Syntax.{w16};
 ghost use mir.Val.{toZ, ofZ};
-ghost use Rattle.wire.specs.Wire.{little, byteAt, u16At, i16At, u32At, sixteenAt, f32At, usable, usableAt, finiteBits, bytesOf, floatBytes, rowBytes, putAt};
+ghost use Rattle.wire.specs.Wire.{little, byteAt, u16At, i16At, u32At, fourAt, sixteenAt, f32At, usable, usableAt, allUsable, finiteBits, bytesOf, floatBytes, rowBytes, putAt};
 ghost use Rattle.wire.specs.First.{firstUnusable, blockUsable};
 
 // ---- numbers and their bits
@@ -255,6 +255,30 @@ pub fn first_unusable(s: &[u8], from: usize, count: usize) -> usize
     }
     let i = scan(s, from, inside);
     if i < inside { i } else { count }
+}
+
+// Whether four words side by side that are there are usable.
+fn four_usable(s: &[u8], p: usize) -> bool
+    requires { ⌜ p + 16 ≤ length (now s) ⌝ }
+    ensures { λ r. ⌜ r ≡ allUsable (fourAt (now (s .entry)) p) ⌝ }
+{
+    usable(word(s, p)) & usable(word(s, p + 4)) & usable(word(s, p + 8)) & usable(word(s, p + 12))
+}
+
+// Whether the sixteen words from a place on are usable, without the words: one test of the length, and vector code.
+pub fn sixteen_usable(s: &[u8], place: u32) -> bool
+    ensures { λ r. ⌜ r ≡ allUsable (sixteenAt (now (s .entry)) place) ⌝ }
+{
+    let p = place as usize;
+    if 64 <= s.len() {
+        if p <= s.len() - 64 {
+            return four_usable(s, p)
+                & four_usable(s, p + 16)
+                & four_usable(s, p + 32)
+                & four_usable(s, p + 48);
+        }
+    }
+    first_unusable(s, p, 16) == 16
 }
 
 // ---- writing

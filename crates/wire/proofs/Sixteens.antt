@@ -1,0 +1,48 @@
+-- Sixteen words that are each usable: judged four at a time, and by looking for the first that is not.
+use Prim.Native.Nat.{ℕ, zero, suc, _+_, _*_}
+use mathlib.Core.Path.{_≡_, refl, _∙_}
+use mathlib.Core.Bool.{Bool, true, false, cond, _&&_}
+use mathlib.Core.List.{List, [], _∷_, _++_}
+use native.Mathlib.Nat.{add-assoc, add-zero}
+use native.Mathlib.Omega.{arith}
+use borrow.Author.Tests.{eq-eqb, ne-eqb}
+use lib.Dec.{eqb}
+use Rattle.wire.specs.Wire.{u32At, fourAt, sixteenAt, usable, allUsable}
+use Rattle.wire.specs.First.{first, usableEntry, firstUnusable}
+
+pub and-four : (a b c d : Bool) → (a && b && c && d) ≡ (a && (b && (c && (d && true))))
+and-four true true true true = refl
+and-four true true true false = refl
+and-four true true false d = refl
+and-four true false c d = refl
+and-four false b c d = refl
+
+all-append : (a b : List ℕ) → (allUsable a && allUsable b) ≡ allUsable (a ++ b)
+all-append [] b = refl
+all-append (w ∷ ws) b = go (usable w) (all-append ws b)
+  where
+    go : (u : Bool) → (allUsable ws && allUsable b) ≡ allUsable (ws ++ b) → ((u && allUsable ws) && allUsable b) ≡ (u && allUsable (ws ++ b))
+    go true e = e
+    go false e = refl
+
+-- The words of the n entries from i on.
+abbrev wordsFrom : List ℕ → ℕ → ℕ → ℕ → List ℕ
+wordsFrom s p zero i = []
+wordsFrom s p (suc n) i = u32At s (p + 4 * i) ∷ wordsFrom s p n (suc i)
+
+-- The first unusable one is past the end where each is usable, and nowhere else.
+none-is-all : (s : List ℕ) (p n i : ℕ) → eqb (first (usableEntry s p) n i) (i + n) ≡ allUsable (wordsFrom s p n i)
+unfolding first usableEntry
+none-is-all s p zero i = let q : i ≡ i + 0 = omega arith in eq-eqb _ _ q
+none-is-all s p (suc n) i = go (usable (u32At s (p + 4 * i))) (none-is-all s p n (suc i))
+  where
+    go : (u : Bool) → eqb (first (usableEntry s p) n (suc i)) (suc i + n) ≡ allUsable (wordsFrom s p n (suc i)) → eqb (cond u (first (usableEntry s p) n (suc i)) i) (i + suc n) ≡ (u && allUsable (wordsFrom s p n (suc i)))
+    go true e = let q : i + suc n ≡ suc i + n = omega arith in rw q e
+    go false e = ne-eqb i (i + suc n) (λ q. omega arith)
+
+module _ (s : List ℕ) (p : ℕ) where
+  pub by-fours : (allUsable (fourAt s p) && allUsable (fourAt s (p + 16)) && allUsable (fourAt s (p + 32)) && allUsable (fourAt s (p + 48))) ≡ allUsable (sixteenAt s p)
+  by-fours = rw (all-append (fourAt s p) (fourAt s (p + 16)), all-append (fourAt s p ++ fourAt s (p + 16)) (fourAt s (p + 32)), all-append (fourAt s p ++ fourAt s (p + 16) ++ fourAt s (p + 32)) (fourAt s (p + 48))) (simp (add-assoc))
+
+  pub by-first : eqb (firstUnusable s p 16) 16 ≡ allUsable (sixteenAt s p)
+  by-first = none-is-all s p 16 0 ∙ rw (add-zero p) refl
