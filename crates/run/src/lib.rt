@@ -176,7 +176,7 @@ fn judge_state(bundle: &[u8], state: State) -> Answer
     ensures { λ r. ⌜ r ≡ P.judgedOf (now (bundle .entry)) state ⌝ }
 {
     let registers = state.registers;
-    let core = controls::judge_filter(bundle, state.effective_cutoff(), registers.resonance);
+    let core = kept::judge_core(bundle, state.effective_cutoff(), registers.resonance);
     answers::first(core, gain_answer(gain_of(bundle, state)))
 }
 
