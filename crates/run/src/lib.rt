@@ -176,8 +176,10 @@ fn judge_state(bundle: &[u8], state: State) -> Answer
     ensures { λ r. ⌜ r ≡ P.judgedOf (now (bundle .entry)) state ⌝ }
 {
     let registers = state.registers;
-    let core = kept::judge_core(bundle, state.effective_cutoff(), registers.resonance);
-    answers::first(core, gain_answer(gain_of(bundle, state)))
+    let effective = state.effective_cutoff();
+    let core = kept::judge_core(bundle, effective, registers.resonance);
+    let gain = kept::refresh_gain(bundle, registers, effective);
+    answers::first(core, gain_answer(gain))
 }
 
 // A state that an event leads to.

@@ -8,8 +8,8 @@ effective-cutoff-requires c κs = search needs
 judge-core-requires : tie.Need-judge-core-requires
 judge-core-requires c κs = search needs
 
-gain-of-requires : tie.Need-gain-of-requires
-gain-of-requires c κs = search needs
+refresh-gain-requires : tie.Need-refresh-gain-requires
+refresh-gain-requires c κs = search needs
 
 gain-answer-requires : tie.Need-gain-answer-requires
 gain-answer-requires c κs = search needs
@@ -18,7 +18,7 @@ first-requires : tie.Need-first-requires
 first-requires c κs = search needs
 
 returns : tie.Need-returns
-returns c = simp (c .first .ensures, c .before .gain-answer .ensures, c .before .before .gain-of .ensures, c .before .before .before .judge-core .ensures, c .before .before .before .before .effective-cutoff .ensures)
+returns c = simp (c .first .ensures, c .before .gain-answer .ensures, c .before .before .refresh-gain .ensures, c .before .before .before .judge-core .ensures, c .before .before .before .before .effective-cutoff .ensures)
 
 pub judge-state-spec : {M : Type 1} → statement M
 judge-state-spec =
@@ -26,7 +26,7 @@ judge-state-spec =
     (tie.spec
     effective-cutoff-requires
     judge-core-requires
-    gain-of-requires
+    refresh-gain-requires
     gain-answer-requires
     first-requires
     returns)
