@@ -40,14 +40,14 @@ advanceOf s driven-input k =
     }
 
 -- document 01's domain: the state numbers and the outputs are finite
+abbrev pub stateFinite : IntegratorState → Bool
+stateFinite s = finite (s .«band_state») && finite (s .«low_state») && finite (s .«filter_source_energy»)
+
+abbrev pub highFinite : Advanced → Bool
+highFinite a = finite (a .outputs .«high_pass»)
+
 unfoldable pub settledOf : Advanced → Bool
-settledOf a =
-    finite (a .state .«band_state»)
-    && finite (a .state .«low_state»)
-    && finite (a .state .«filter_source_energy»)
-    && finite (a .outputs .«high_pass»)
-    && finite (a .outputs .«band_pass»)
-    && finite (a .outputs .«low_pass»)
+settledOf a = stateFinite (a .state) && highFinite a && finite (a .outputs .«band_pass») && finite (a .outputs .«low_pass»)
 
 -- one substep, and whether it stayed in the domain
 unfoldable pub substepOf : IntegratorState → Float → Coefficients → Substeps

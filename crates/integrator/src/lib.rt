@@ -1,7 +1,8 @@
 // The nonlinear state-variable integrator of the 6581's filter: two capacitors, whose states are the band-pass and the low-pass;
 // high-pass is worked out from the input and the feedback.
 ghost use mathlib.Core.Path.{_≡_};
-ghost use Rattle.integrator.specs.Integrator.{saturateOf, advanceOf, substepOf, fourSubstepsOf};
+ghost use mathlib.Core.Bool.{_&&_};
+ghost use Rattle.integrator.specs.Integrator.{saturateOf, advanceOf, stateFinite, highFinite, fourSubstepsOf};
 
 #[repr(C)]
 pub struct FilterOutputs {
@@ -78,39 +79,39 @@ impl IntegratorState {
         }
     }
 
-    // One substep, and whether the state and the outputs stayed finite. The band and the low output are finite where their next
-    // states are, so they are not tested again.
-    fn substep(self, driven_input: f32, k: Coefficients) -> Substeps
-        ensures { λ r. ⌜ r ≡ substepOf self «driven_input» k ⌝ }
-    {
-        let a = self.advance(driven_input, k);
-        let state = a.state;
-        let outputs = a.outputs;
-        if floats::is_finite(state.band_state)
-            & floats::is_finite(state.low_state)
-            & floats::is_finite(state.filter_source_energy)
-            & floats::is_finite(outputs.high_pass)
-        {
-            return Substeps::Settled(a);
-        }
-        Substeps::NotFinite
-    }
-
-    // The four substeps of one sample, with the same input and coefficients; it stops at the first that leaves the finite domain.
+    // The four substeps of one sample, with the same input and coefficients, and whether the state and the outputs stayed finite in each. A state is finite
+    // where the next one is, so that of the first three substeps the high output alone is looked at.
     pub fn four_substeps(self, driven_input: f32, k: Coefficients) -> Substeps
         ensures { λ r. ⌜ r ≡ fourSubstepsOf self «driven_input» k ⌝ }
     {
-        let Substeps::Settled(first) = self.substep(driven_input, k) else {
-            return Substeps::NotFinite;
-        };
-        let Substeps::Settled(second) = first.state.substep(driven_input, k) else {
-            return Substeps::NotFinite;
-        };
-        let Substeps::Settled(third) = second.state.substep(driven_input, k) else {
-            return Substeps::NotFinite;
-        };
-        third.state.substep(driven_input, k)
+        let first = self.advance(driven_input, k);
+        let second = first.state.advance(driven_input, k);
+        let third = second.state.advance(driven_input, k);
+        let fourth = third.state.advance(driven_input, k);
+        let later = high_finite(third) & all_finite(fourth);
+        if high_finite(first) & (high_finite(second) & later) {
+            return Substeps::Settled(fourth);
+        }
+        Substeps::NotFinite
     }
+}
+
+fn high_finite(a: Advanced) -> bool
+    ensures { λ r. ⌜ r ≡ highFinite a ⌝ }
+{
+    let outputs = a.outputs;
+    floats::is_finite(outputs.high_pass)
+}
+
+// The band and the low output are finite where their next states are, so they are not tested again.
+fn all_finite(a: Advanced) -> bool
+    ensures { λ r. ⌜ r ≡ (stateFinite (a .state) && highFinite a) ⌝ }
+{
+    let state = a.state;
+    floats::is_finite(state.band_state)
+        & floats::is_finite(state.low_state)
+        & floats::is_finite(state.filter_source_energy)
+        & high_finite(a)
 }
 
 // `IntegratorState::advance` over a state that is lent to be changed: the value form, stored.
