@@ -11,11 +11,11 @@ use lib.Ieee.{Float, nan}
 use lib.Ieee.Scale.{finite}
 use Rattle.controls.specs.Judging.{allFinite}
 
-pub and-assoc : (a b c : Bool) → (a && (b && c)) ≡ ((a && b) && c)
+and-assoc : (a b c : Bool) → (a && (b && c)) ≡ ((a && b) && c)
 and-assoc true b c = refl
 and-assoc false b c = refl
 
-pub and-true : (b : Bool) → (b && true) ≡ b
+and-true : (b : Bool) → (b && true) ≡ b
 and-true true = refl
 and-true false = refl
 

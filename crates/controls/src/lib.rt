@@ -84,6 +84,7 @@ fn integrator_gain(bundle: &[u8], code: u16, resonance: u8) -> [f32; 16]
     ]
 }
 
+// The entries of a drive table at the sixteen operating bins, without the seventeenth, which repeats the last.
 pub fn sixteen_of(table: [f32; 17]) -> [f32; 16]
     ensures { λ r. ⌜ r ≡ C.sixteen (λ bin. getD table bin nan) ⌝ }
 {
@@ -107,6 +108,7 @@ pub fn sixteen_of(table: [f32; 17]) -> [f32; 16]
     ]
 }
 
+// How much of the low-pass output leaks into high: less at a higher cutoff.
 pub fn high_pass_low_coupling(position: f32) -> f32
     ensures { λ r. ⌜ r ≡ C.highPassLowCouplingOf position ⌝ }
 {
@@ -114,6 +116,7 @@ pub fn high_pass_low_coupling(position: f32) -> f32
         / (1.0 + position / constants::FILTER_HIGHPASS_LOW_COUPLING_DECAY)
 }
 
+// How much of the low-pass output leaks into band: none at cutoff 0, more at a higher one.
 pub fn band_pass_low_coupling(position: f32) -> f32
     ensures { λ r. ⌜ r ≡ C.bandPassLowCouplingOf position ⌝ }
 {
@@ -124,18 +127,21 @@ pub fn band_pass_low_coupling(position: f32) -> f32
                 * constants::FILTER_BANDPASS_LOW_COUPLING_KNEE)
 }
 
+// The resonance as a part of the highest, 15.
 pub fn resonance_position(resonance: u8) -> f32
     ensures { λ r. ⌜ r ≡ C.resonancePositionOf resonance ⌝ }
 {
     floats::of_u16(resonance as u16) / 15.0
 }
 
+// How much the resonance scales the drive of the feedback.
 pub fn feedback_scale(r: f32) -> f32
     ensures { λ s. ⌜ s ≡ C.feedbackScaleOf r ⌝ }
 {
     0.78 + 0.30 * r
 }
 
+// How much the resonance scales the source's load on the pole: least at no resonance.
 pub fn modulation_scale(r: f32) -> f32
     ensures { λ s. ⌜ s ≡ C.modulationScaleOf r ⌝ }
 {
@@ -143,6 +149,7 @@ pub fn modulation_scale(r: f32) -> f32
         + (1.0 - constants::FILTER_SOURCE_RESONANCE_FLOOR) * r * r
 }
 
+// The gain that the resonance gives the filter's output: 1 up to resonance 8, most from 15 on.
 pub fn resonance_output_gain(r: f32) -> f32
     ensures { λ g. ⌜ g ≡ C.resonanceOutputGainOf (C.liftPositionOf r) ⌝ }
 {

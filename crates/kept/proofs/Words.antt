@@ -1,7 +1,7 @@
 -- The words of `refresh_filter_controls` and what follows from them. Assumes nothing.
 use Prim.Native.Nat.{ℕ, _+_, _*_}
 use mathlib.Core.Path.{_≡_, refl, sym, subst, _∙_}
-use mathlib.Core.Bool.{Bool, true, false, not, cond, _&&_}
+use mathlib.Core.Bool.{Bool, true, false, not, _&&_}
 use mathlib.Core.List.{List, [], _∷_, map}
 use native.Mathlib.Omega.{arith}
 use Rattle.answers.specs.declared.Answer.the-variants.{Done}
@@ -12,7 +12,7 @@ use Rattle.bundle.specs.Opening.{judgePlacesOf}
 use Rattle.bundle.proofs.Laws.{judge-append}
 use Rattle.controls.specs.Controls.{integratorGainOf}
 use Rattle.controls.specs.Judging.{judgeFilterOf}
-use Rattle.kept.specs.Kept.{usableGainsOf, gainsOf, judgeFilterIfOf}
+use Rattle.kept.specs.Kept.{gainsOf, judgeFilterIfOf}
 
 both : (a b : Bool) → (a && b) ≡ true → (a ≡ true) × (b ≡ true)
 both true b e = (refl, e)
@@ -53,13 +53,13 @@ module _ (bundle : List ℕ) (code resonance : ℕ) where
   others = dampingPlace resonance ∷ sourceGainModulationPlace code ∷ []
 
   abbrev each : Bool
-  each = usableGainsOf words && usableAt bundle (dampingPlace resonance) && usableAt bundle (sourceGainModulationPlace code)
+  each = allUsable words && usableAt bundle (dampingPlace resonance) && usableAt bundle (sourceGainModulationPlace code)
 
   all-usable : each ≡ true → judgeFilterOf bundle code resonance ≡ Done
-  unfolding judgeFilterOf usableGainsOf
+  unfolding judgeFilterOf
   all-usable e =
-      let m = both (usableGainsOf words && usableAt bundle (dampingPlace resonance)) (usableAt bundle (sourceGainModulationPlace code)) e in
-      let d = both (usableGainsOf words) (usableAt bundle (dampingPlace resonance)) (m .0) in
+      let m = both (allUsable words && usableAt bundle (dampingPlace resonance)) (usableAt bundle (sourceGainModulationPlace code)) e in
+      let d = both (allUsable words) (usableAt bundle (dampingPlace resonance)) (m .0) in
       let g : judgePlacesOf Bundle bundle places ≡ Done = words-judged bundle places (subst (λ (w : List ℕ). allUsable w ≡ true) words-read (d .0)) in
       let o : judgePlacesOf Bundle bundle others ≡ Done = words-judged bundle others (simp (d .1, m .1)) in
       judge-append Bundle bundle places others ∙ simp (g, o)

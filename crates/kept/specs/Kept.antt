@@ -1,7 +1,7 @@
--- What a run keeps of the controls, by the part that a write changes, with what is refused beside each part.
+-- What a run keeps of the controls, by the part that a write changes, and what is refused of each part.
 use Prim.Native.Nat.{ℕ, _%_}
 use mathlib.Core.Bool.{Bool, cond, _&&_}
-use mathlib.Core.List.{List, [], _∷_}
+use mathlib.Core.List.{List}
 use lib.Dec.{eqb}
 use lib.ListN.{getD}
 use lib.Ieee.{Float, nan, binary32, ofBits}
@@ -11,7 +11,6 @@ use Rattle.answers.specs.declared.Answer.{Answer}
 use Rattle.answers.specs.declared.Answer.the-variants.{Done, Domain}
 use Rattle.answers.specs.Answers.{firstOf, unlessOf}
 use Rattle.floats.specs.Arithmetic.{f32}
-use Rattle.wire.specs.Wire.{allUsable}
 use Rattle.bundle.specs.declared.Read.{Read}
 use Rattle.bundle.specs.Layout.{highpassLoadingPlace, directionalPowerPlace}
 use Rattle.bundle.specs.Opening.{entryAt}
@@ -48,15 +47,9 @@ feedbackDrives = sixteen (λ bin. getD K.FILTER-FEEDBACK-DRIVE bin nan)
 unfoldable pub coreRefreshedOf : List ℕ → ℕ → ℕ → CoreRefreshed
 coreRefreshedOf bundle cutoff resonance =
     let f = filterControlsOf bundle cutoff resonance in
-    record { answer = judgeFilterOf bundle cutoff resonance; «integrator_gain» = f .«integrator_gain»; core = coreControlsOf f }
+    record { «integrator_gain» = f .«integrator_gain»; core = coreControlsOf f }
 
--- sixteen words that are each usable; their floats
-unfoldable pub usableGainsOf : List ℕ → Bool
-usableGainsOf w =
-    allUsable
-    (getD w 0 0 ∷ getD w 1 0 ∷ getD w 2 0 ∷ getD w 3 0 ∷ getD w 4 0 ∷ getD w 5 0 ∷ getD w 6 0 ∷ getD w 7 0
-    ∷ getD w 8 0 ∷ getD w 9 0 ∷ getD w 10 0 ∷ getD w 11 0 ∷ getD w 12 0 ∷ getD w 13 0 ∷ getD w 14 0 ∷ getD w 15 0 ∷ [])
-
+-- the floats of sixteen words
 abbrev pub gainsOf : List ℕ → List Float
 gainsOf w = sixteen (λ bin. ofBits binary32 (getD w bin 0))
 

@@ -20,9 +20,8 @@ pub struct CoreControls {
     pub resonance_output_gain: f32,
 }
 
-// What a write of the cutoff or of the resonance changes for the samples that follow, and whether an entry of it is refused.
+// What a write of the cutoff or of the resonance changes for the samples that follow.
 pub struct CoreRefreshed {
-    pub answer: Answer,
     pub integrator_gain: [f32; 16],
     pub core: CoreControls,
 }
@@ -52,28 +51,6 @@ pub fn feedback_drives() -> [f32; 16]
     ensures { λ r. ⌜ r ≡ K.feedbackDrives ⌝ }
 {
     controls::sixteen_of(constants::feedback_drive())
-}
-
-// Whether the sixteen gains are usable, by their words.
-fn usable_gains(words: [u32; 16]) -> bool
-    ensures { λ r. ⌜ r ≡ K.usableGainsOf words ⌝ }
-{
-    wire::usable(words[0])
-        & wire::usable(words[1])
-        & wire::usable(words[2])
-        & wire::usable(words[3])
-        & wire::usable(words[4])
-        & wire::usable(words[5])
-        & wire::usable(words[6])
-        & wire::usable(words[7])
-        & wire::usable(words[8])
-        & wire::usable(words[9])
-        & wire::usable(words[10])
-        & wire::usable(words[11])
-        & wire::usable(words[12])
-        & wire::usable(words[13])
-        & wire::usable(words[14])
-        & wire::usable(words[15])
 }
 
 // The sixteen gains of their words.
@@ -133,11 +110,9 @@ pub fn refresh_core(bundle: &[u8], cutoff: u16, resonance: u8) -> CoreRefreshed
         bundle,
         bundle::source_gain_modulation_place(cutoff) as usize,
     );
-    let usable = usable_gains(gains) & wire::usable(damping) & wire::usable(modulation);
     let position = floats::of_u16(cutoff);
     let r = controls::resonance_position(resonance);
     CoreRefreshed {
-        answer: judge_filter_if(!usable, bundle, cutoff, resonance),
         integrator_gain: gains_of(gains),
         core: CoreControls {
             damping: wire::f32_of(damping),

@@ -1,5 +1,4 @@
 use denote.Ref.{now}
-use Rattle.kept.specs.Kept.{usableGainsOf}
 use Rattle.kept.proofs.Words.{judged-by-words}
 use borrow.Author.Needs.{needs}
 use Rattle.kept.proofs.judge_core.Statement.{statement}
@@ -33,7 +32,6 @@ judge-filter-if-requires : tie.Need-judge-filter-if-requires
 judge-filter-if-requires c κs = search needs
 
 returns : tie.Need-returns
-unfolding usableGainsOf
 returns c =
     let a = c .before .before .before .before .before .before .before .before .args in
     simp (

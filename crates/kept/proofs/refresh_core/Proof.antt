@@ -1,7 +1,7 @@
 use denote.Ref.{now}
 use Rattle.controls.specs.Controls.{filterControlsOf}
 use Rattle.kept.specs.Kept.{coreRefreshedOf}
-use Rattle.kept.proofs.Words.{gains-read, judged-by-words}
+use Rattle.kept.proofs.Words.{gains-read}
 use borrow.Author.Needs.{needs}
 use Rattle.kept.proofs.refresh_core.Statement.{statement}
 use Rattle.kept.proofs.refresh_core.Tie as tie
@@ -30,23 +30,11 @@ cast-u32-at-2 c = search needs
 u32-at-requires-2 : tie.Need-u32-at-requires-2
 u32-at-requires-2 c κs = search needs
 
-usable-gains-requires : tie.Need-usable-gains-requires
-usable-gains-requires c κs = search needs
-
-usable-requires : tie.Need-usable-requires
-usable-requires c κs = search needs
-
-usable-requires-2 : tie.Need-usable-requires-2
-usable-requires-2 c κs = search needs
-
 of-u16-requires : tie.Need-of-u16-requires
 of-u16-requires c κs = search needs
 
 resonance-position-requires : tie.Need-resonance-position-requires
 resonance-position-requires c κs = search needs
-
-judge-filter-if-requires : tie.Need-judge-filter-if-requires
-judge-filter-if-requires c κs = search needs
 
 gains-of-requires : tie.Need-gains-of-requires
 gains-of-requires c κs = search needs
@@ -75,8 +63,8 @@ resonance-output-gain-requires c κs = search needs
 returns : tie.Need-returns
 unfolding coreRefreshedOf filterControlsOf
 returns c =
-    let d = c .before .before .before .before .before .before .before .before .before .before in
-    let a = d .before .before .before .before .before .before .before .before .before .before .before .args in
+    let d = c .before .before .before .before .before .before .before .before in
+    let a = d .before .before .before .before .before .before .before .before .before .args in
     simp (
       c .resonance-output-gain .ensures,
       c .before .modulation-scale .ensures,
@@ -86,20 +74,15 @@ returns c =
       c .before .before .before .before .before .f32-of2 .ensures,
       c .before .before .before .before .before .before .f32-of .ensures,
       c .before .before .before .before .before .before .before .gains-of .ensures,
-      c .before .before .before .before .before .before .before .before .judge-filter-if .ensures,
-      c .before .before .before .before .before .before .before .before .before .resonance-position .ensures,
-      d .of-u16 .ensures,
-      d .before .usable2 .ensures,
-      d .before .before .usable .ensures,
-      d .before .before .before .usable-gains .ensures,
-      d .before .before .before .before .u32-at2 .ensures,
-      d .before .before .before .before .before .source-gain-modulation-place .ensures,
-      d .before .before .before .before .before .before .u32-at .ensures,
-      d .before .before .before .before .before .before .before .damping-place .ensures,
-      d .before .before .before .before .before .before .before .before .sixteen-at .ensures,
-      d .before .before .before .before .before .before .before .before .before .integrator-gain-place .ensures,
+      d .resonance-position .ensures,
+      d .before .of-u16 .ensures,
+      d .before .before .u32-at2 .ensures,
+      d .before .before .before .source-gain-modulation-place .ensures,
+      d .before .before .before .before .u32-at .ensures,
+      d .before .before .before .before .before .damping-place .ensures,
+      d .before .before .before .before .before .before .sixteen-at .ensures,
+      d .before .before .before .before .before .before .before .integrator-gain-place .ensures,
       gains-read (now (a .bundle)) (a .cutoff) (a .resonance),
-      judged-by-words (now (a .bundle)) (a .cutoff) (a .resonance),
     )
 
 pub refresh-core-spec : {M : Type 1} → statement M
@@ -114,12 +97,8 @@ refresh-core-spec =
     source-gain-modulation-place-requires
     cast-u32-at-2
     u32-at-requires-2
-    usable-gains-requires
-    usable-requires
-    usable-requires-2
     of-u16-requires
     resonance-position-requires
-    judge-filter-if-requires
     gains-of-requires
     f32-of-requires
     f32-of-requires-2
