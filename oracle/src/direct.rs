@@ -3,7 +3,7 @@
 use crate::filter::Filter;
 use crate::integrator::IntegratorState;
 use crate::mixing::MixingTopology;
-use crate::numbers::{word, Random, Tally};
+use crate::numbers::{word, Random, Tally, DAMAGES};
 use crate::response::*;
 use crate::surface::{curves_of, data, surface_of, CURVES_LENGTH};
 use crate::tables::AnalogueTransferSurface;
@@ -318,20 +318,6 @@ fn volume(curves: &[u8], filter: &mut Filter) -> Tally {
     filter.registers().volume = 0;
     tally
 }
-
-/// Four that stay usable, and what does not.
-const DAMAGES: [u32; 10] = [
-    0x4480_0000, // 1,024
-    0xc480_0000,
-    0x8000_0000,
-    0x0000_0001,
-    0x4480_0001, // just above 1,024
-    0xc480_0001,
-    0x7f80_0000, // the infinities
-    0xff80_0000,
-    0x7fc0_0000, // a NaN
-    0x7f7f_ffff, // the largest float
-];
 
 pub fn damage(bytes: &mut [u8], place: usize, random: &mut Random) {
     bytes[place..place + 4].copy_from_slice(&DAMAGES[(random.bits() % 10) as usize].to_le_bytes());

@@ -28,6 +28,22 @@ pub fn word(x: f32) -> u32 {
     }
 }
 
+/// What an entry is damaged with: four that stay usable, and what does not.
+pub const DAMAGES: [u32; 12] = [
+    0x4480_0000, // 1,024
+    0xc480_0000,
+    0x8000_0000,
+    0x0000_0001,
+    0x4480_0001, // just above 1,024
+    0xc480_0001,
+    0x7f80_0000, // the infinities
+    0xff80_0000,
+    0x7f80_0001, // NaNs
+    0x7fc0_0000,
+    0xffff_ffff,
+    0x7f7f_ffff, // the largest float
+];
+
 /// The generator splitmix64.
 pub struct Random(pub u64);
 

@@ -4,7 +4,7 @@
 
 use crate::filter::Filter;
 use crate::kept::{filter_block, play};
-use crate::numbers::{Random, Tally};
+use crate::numbers::{Random, Tally, DAMAGES};
 use crate::plain::{check_script, decode, Machine, State, BUNDLE_LENGTH, CURVES_LENGTH};
 use crate::surface::proved::{self, Answer};
 use crate::surface::{curves_of, data};
@@ -498,22 +498,6 @@ fn wrong_buffers(beside: &mut Beside) -> Tally {
 }
 
 // ---- entries
-
-/// Four that stay usable, and what does not.
-const DAMAGES: [u32; 12] = [
-    0x4480_0000, // 1,024
-    0xc480_0000,
-    0x8000_0000,
-    0x0000_0001,
-    0x4480_0001, // just above 1,024
-    0xc480_0001,
-    0x7f80_0000, // the infinities
-    0xff80_0000,
-    0x7f80_0001, // NaNs
-    0x7fc0_0000,
-    0xffff_ffff,
-    0x7f7f_ffff, // the largest float
-];
 
 /// Entries set to other bits, and what they were.
 struct Damage(Vec<(u32, usize, [u8; 4])>);

@@ -2,7 +2,7 @@
 
 use crate::constants::*;
 use crate::filter::Filter;
-use crate::numbers::{word, Random, Tally};
+use crate::numbers::{word, Random, Tally, DAMAGES};
 use crate::response::volume_dac_conductance_code;
 use crate::tables::AnalogueTransferSurface;
 
@@ -307,22 +307,6 @@ fn usable(entry: &[u8]) -> bool {
 fn first_unusable(bytes: &[u8], from: usize, entries: usize) -> Option<usize> {
     bytes[from..from + 4 * entries].chunks_exact(4).position(|entry| !usable(entry)).map(|index| from + 4 * index)
 }
-
-/// What an entry is damaged with: four that stay usable, and what does not.
-const DAMAGES: [u32; 12] = [
-    0x4480_0000, // 1,024
-    0xc480_0000,
-    0x8000_0000,
-    0x0000_0001,
-    0x4480_0001, // just above 1,024
-    0xc480_0001,
-    0x7f80_0000, // the infinities
-    0xff80_0000,
-    0x7f80_0001, // NaNs
-    0x7fc0_0000,
-    0xffff_ffff,
-    0x7f7f_ffff, // the largest float
-];
 
 /// One to three entries anywhere, in the surface, or about a section's ends.
 fn damaged_bundles(mut bundle: Vec<u8>) -> Tally {
