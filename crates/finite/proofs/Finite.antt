@@ -1,83 +1,116 @@
--- Numbers that follow from a code of at most 2,047, a resonance or a volume alone are finite: computed at each of them. Assumes nothing.
-use Prim.Native.Nat.{ℕ, zero, suc, _<_, _≤_}
+-- Numbers that follow from the registers alone are finite: those of the output, the feedback and the modulation by bounds on their parts, the couplings and the lift,
+-- which divide by numbers that are not whole, by computing them at each code of at most 2,047 and at each resonance. Assumes nothing.
+use Prim.Native.Nat.{ℕ, zero, suc, _+_, _^_, _<_, _≤_}
 use mathlib.Core.Path.{_≡_, refl, ap, _∙_}
-use mathlib.Core.Bool.{Bool, true, false, _&&_}
+use mathlib.Core.Bool.{Bool, true, _&&_}
 use mathlib.Core.Logic.{⊎-elim}
 use native.Mathlib.Omega.{arith}
+use lib.Dec.{lit<, lit≤}
 use lib.IntN.{pos}
 use lib.Ieee.{Float, binary32, ofInt, ofBits, mul, add, sub, div, lt}
 use lib.Ieee.Scale.{finite}
 use Rattle.constants.specs.Values as K
-use Rattle.floats.specs.Arithmetic.{_⊕_, _⊖_, _⊗_, _⊘_, f32}
-use Rattle.floats.specs.Floats.{clampOf}
-use Rattle.response.specs.Levels.{outputCommonModeOf}
-use Rattle.wire.proofs.Laws.{le-or-lt}
+use Rattle.floats.specs.Arithmetic.{_⊕_, _⊖_, _⊗_, f32}
+use Rattle.floats.proofs.Sized.{Sized, sized-finite, sized-more, literal-sized, ofInt-sized, quotient-sized, cond-sized, add-sized, sub-sized, mul-sized}
+use Rattle.response.specs.Bits.{bit}
+use Rattle.response.specs.Levels.{addIf, between, cutoffPositionOf, outputCommonModeOf}
+use Rattle.wire.proofs.Laws.{le-or-lt, both}
 use Rattle.control.specs.declared.FilterRegisters.{FilterRegisters}
 use Rattle.controls.specs.Judging.{finiteOutputOf}
 use Rattle.controls.specs.Controls.{outputControlsOf, highPassLowCouplingOf, bandPassLowCouplingOf, resonancePositionOf, feedbackScaleOf, modulationScaleOf, liftPositionOf, resonanceOutputGainOf}
 
-both : (a b : Bool) → (a && b) ≡ true → (a ≡ true) × (b ≡ true)
-both true b e = (refl, e)
-both false b e = (e, cc)
+-- ---- a cutoff of 16 bits, and a resonance or a volume of 8
 
--- a test at every number below n
-unfoldable pub below : (ℕ → Bool) → ℕ → Bool
+-- 65,535 / 2,047 is below 33.
+position-sized : (n : ℕ) → n < 65536 → Sized (cutoffPositionOf n) 33
+unfolding ofBits
+position-sized n h = quotient-sized binary32 33 2047 (lit< tt) (lit≤ tt) (omega arith) (record { value = (refl, refl) })
+
+-- 255 / 15 is 17. The volume's fraction is worked out as the resonance's position is.
+fraction-sized : (n : ℕ) → n < 256 → Sized (resonancePositionOf n) 17
+unfolding ofBits
+fraction-sized n h = quotient-sized binary32 17 15 (lit< tt) (lit≤ tt) (omega arith) (record { value = (refl, refl) })
+
+-- ---- the output's common mode
+
+-- Between two levels of at most 1, by the cutoff's position.
+between-sized : {lower upper fraction : Float} → Sized lower 1 → Sized upper 1 → Sized fraction 33 → Sized (between lower upper fraction) 67
+between-sized l u p = add-sized binary32 (lit≤ tt) l (mul-sized binary32 (lit≤ tt) (sub-sized binary32 (lit≤ tt) u l) p)
+
+-- A bit of the mode adds its level or nothing.
+addIf-sized : (on : Bool) {sum x : Float} {j k : ℕ} → j + k ≤ 2 ^ 24 → Sized sum j → Sized x k → Sized (addIf on sum x) (j + k)
+addIf-sized on K u v = cond-sized on (add-sized binary32 K u v) (sized-more (omega arith) u)
+
+-- The three levels are at most 67 each.
+common-sized : (mode cutoff : ℕ) → cutoff < 65536 → Sized (outputCommonModeOf mode cutoff) 201
+unfolding outputCommonModeOf ofBits
+common-sized mode cutoff h =
+    let p = position-sized cutoff h in
+    let low = between-sized (literal-sized K.FILTER-LOWPASS-COMMON-MODE-FC-0 1 (lit≤ tt)) (literal-sized K.FILTER-LOWPASS-COMMON-MODE-FC-2047 1 (lit≤ tt)) p in
+    let band = between-sized (literal-sized K.FILTER-BANDPASS-COMMON-MODE-FC-0 1 (lit≤ tt)) (literal-sized K.FILTER-BANDPASS-COMMON-MODE-FC-2047 1 (lit≤ tt)) p in
+    let high = between-sized (literal-sized K.FILTER-HIGHPASS-COMMON-MODE-FC-0 1 (lit≤ tt)) (literal-sized K.FILTER-HIGHPASS-COMMON-MODE-FC-2047 1 (lit≤ tt)) p in
+    addIf-sized (bit mode 2) (lit≤ tt) (addIf-sized (bit mode 1) (lit≤ tt) (addIf-sized (bit mode 0) (lit≤ tt) (literal-sized (f32 0) 0 (lit≤ tt)) low) band) high
+
+-- The mixer's offset with two voices.
+offset-finite : (v : ℕ) → v < 256
+    → finite (K.SID-MIXER-TWO-VOICE-VOLUME-GAIN-AT-CODE-9 ⊖ f32 0x3f80_0000 ⊕ K.SID-MIXER-TWO-VOICE-VOLUME-GAIN-PER-CODE ⊗ (ofInt binary32 (pos v) ⊖ f32 0x4110_0000)) ≡ true
+unfolding ofBits
+offset-finite v h =
+    let volume : Sized (ofInt binary32 (pos v)) 255 = ofInt-sized binary32 (omega arith) (lit≤ tt) in
+    sized-finite
+    (add-sized binary32 (lit≤ tt)
+    (sub-sized binary32 (lit≤ tt) (literal-sized K.SID-MIXER-TWO-VOICE-VOLUME-GAIN-AT-CODE-9 2 (lit≤ tt)) (literal-sized (f32 0x3f80_0000) 1 (lit≤ tt)))
+    (mul-sized binary32 (lit≤ tt) (literal-sized K.SID-MIXER-TWO-VOICE-VOLUME-GAIN-PER-CODE 1 (lit≤ tt)) (sub-sized binary32 (lit≤ tt) volume (literal-sized (f32 0x4110_0000) 9 (lit≤ tt)))))
+
+-- Every number of `refresh_register_output_state` is finite.
+pub output-finite : (r : FilterRegisters) → r .volume < 256 → r .cutoff < 65536 → finiteOutputOf (outputControlsOf r) ≡ true
+unfolding finiteOutputOf outputControlsOf ofBits
+output-finite r hv hc =
+    let common = common-sized (r .mode) (r .cutoff) hc in
+    let fraction = fraction-sized (r .volume) hv in
+    simp (
+      sized-finite common,
+      sized-finite fraction,
+      offset-finite (r .volume) hv,
+      sized-finite (mul-sized binary32 (lit≤ tt) (literal-sized K.COMBINED-OUTPUT-COMMON-MODE 1 (lit≤ tt)) fraction),
+      sized-finite (mul-sized binary32 (lit≤ tt) (literal-sized K.PURE-BYPASS-OUTPUT-COMMON-MODE 1 (lit≤ tt)) fraction),
+      sized-finite (mul-sized binary32 (lit≤ tt) common fraction),
+    )
+
+-- ---- a resonance's feedback and modulation
+
+module _ (r : ℕ) (h : r < 256) where
+  pub position-finite : finite (resonancePositionOf r) ≡ true
+  position-finite = sized-finite (fraction-sized r h)
+
+  pub feedback-finite : finite (feedbackScaleOf (resonancePositionOf r)) ≡ true
+  unfolding ofBits
+  feedback-finite =
+      let base = literal-sized (f32 0x3f47_ae14) 1 (lit≤ tt) in
+      let slope = literal-sized (f32 0x3e99_999a) 1 (lit≤ tt) in
+      sized-finite (add-sized binary32 (lit≤ tt) base (mul-sized binary32 (lit≤ tt) slope (fraction-sized r h)))
+
+  pub modulation-finite : finite (modulationScaleOf (resonancePositionOf r)) ≡ true
+  unfolding ofBits
+  modulation-finite =
+      let floor = literal-sized K.FILTER-SOURCE-RESONANCE-FLOOR 1 (lit≤ tt) in
+      let span = sub-sized binary32 (lit≤ tt) (literal-sized (f32 0x3f80_0000) 1 (lit≤ tt)) floor in
+      let p = fraction-sized r h in
+      sized-finite (add-sized binary32 (lit≤ tt) floor (mul-sized binary32 (lit≤ tt) (mul-sized binary32 (lit≤ tt) span p) p))
+
+-- ---- a code's couplings and a resonance's lift, computed
+
+-- A test at every number below n.
+unfoldable below : (ℕ → Bool) → ℕ → Bool
 below ok zero = true
 below ok (suc n) = ok n && below ok n
 
-pub below-at : (ok : ℕ → Bool) (n : ℕ) → below ok n ≡ true → (k : ℕ) → k < n → ok k ≡ true
+below-at : (ok : ℕ → Bool) (n : ℕ) → below ok n ≡ true → (k : ℕ) → k < n → ok k ≡ true
 unfolding below
 below-at ok zero e k h = absurd (omega arith)
 below-at ok (suc n) e k h =
     let w = both (ok n) (below ok n) e in
     ⊎-elim (λ (g : n ≤ k). let q : k ≡ n = omega arith in ap ok q ∙ w .0) (λ (g : k < n). below-at ok n (w .1) k g) (le-or-lt n k)
-
--- ---- a volume, of 0 to 255
-
-abbrev volumeOf : ℕ → Float
-volumeOf v = ofInt binary32 (pos v)
-
-abbrev fractionOf : ℕ → Float
-fractionOf v = volumeOf v ⊘ f32 0x4170_0000
-
-abbrev offsetOf : ℕ → Float
-offsetOf v = K.SID-MIXER-TWO-VOICE-VOLUME-GAIN-AT-CODE-9 ⊖ f32 0x3f80_0000 ⊕ K.SID-MIXER-TWO-VOICE-VOLUME-GAIN-PER-CODE ⊗ (volumeOf v ⊖ f32 0x4110_0000)
-
-fractions : below (λ v. finite (fractionOf v)) 256 ≡ true
-unfolding below ofInt ofBits div
-fractions = refl
-
-offsets : below (λ v. finite (offsetOf v)) 256 ≡ true
-unfolding below ofInt ofBits mul add sub
-offsets = refl
-
-combined : below (λ v. finite (K.COMBINED-OUTPUT-COMMON-MODE ⊗ fractionOf v)) 256 ≡ true
-unfolding below ofInt ofBits mul div
-combined = refl
-
-bypass : below (λ v. finite (K.PURE-BYPASS-OUTPUT-COMMON-MODE ⊗ fractionOf v)) 256 ≡ true
-unfolding below ofInt ofBits mul div
-bypass = refl
-
-and-true : (b : Bool) → (b && true) ≡ b
-and-true true = refl
-and-true false = refl
-
--- Of the numbers of `refresh_register_output_state` only the two that the mode moves can leave the finite domain.
-pub output-finite : (r : FilterRegisters) → r .volume < 256
-    → finiteOutputOf (outputControlsOf r) ≡ (finite (outputCommonModeOf (r .mode) (r .cutoff)) && finite (outputCommonModeOf (r .mode) (r .cutoff) ⊗ fractionOf (r .volume)))
-unfolding finiteOutputOf outputControlsOf
-output-finite r h =
-    let v = r .volume in
-    simp (
-      below-at (λ v. finite (fractionOf v)) 256 fractions v h,
-      below-at (λ v. finite (offsetOf v)) 256 offsets v h,
-      below-at (λ v. finite (K.COMBINED-OUTPUT-COMMON-MODE ⊗ fractionOf v)) 256 combined v h,
-      below-at (λ v. finite (K.PURE-BYPASS-OUTPUT-COMMON-MODE ⊗ fractionOf v)) 256 bypass v h,
-      and-true,
-    )
-
--- ---- a code of at most 2,047, and a resonance of 0 to 255
 
 abbrev codeOf : ℕ → Float
 codeOf n = ofInt binary32 (pos n)
@@ -90,37 +123,15 @@ band-couplings : below (λ n. finite (bandPassLowCouplingOf (codeOf n))) 2048 �
 unfolding below ofInt ofBits mul add div
 band-couplings = refl
 
+lifts : below (λ r. finite (resonanceOutputGainOf (liftPositionOf (resonancePositionOf r)))) 256 ≡ true
+unfolding below ofInt ofBits mul add sub div lt
+lifts = refl
+
 pub high-coupling-finite : (n : ℕ) → n < 2048 → finite (highPassLowCouplingOf (codeOf n)) ≡ true
 high-coupling-finite n h = below-at (λ n. finite (highPassLowCouplingOf (codeOf n))) 2048 high-couplings n h
 
 pub band-coupling-finite : (n : ℕ) → n < 2048 → finite (bandPassLowCouplingOf (codeOf n)) ≡ true
 band-coupling-finite n h = below-at (λ n. finite (bandPassLowCouplingOf (codeOf n))) 2048 band-couplings n h
 
-positions : below (λ r. finite (resonancePositionOf r)) 256 ≡ true
-unfolding below ofInt ofBits div
-positions = refl
-
-feedbacks : below (λ r. finite (feedbackScaleOf (resonancePositionOf r))) 256 ≡ true
-unfolding below ofInt ofBits mul add div
-feedbacks = refl
-
-modulations : below (λ r. finite (modulationScaleOf (resonancePositionOf r))) 256 ≡ true
-unfolding below ofInt ofBits mul add sub div
-modulations = refl
-
-lifts : below (λ r. finite (resonanceOutputGainOf (liftPositionOf (resonancePositionOf r)))) 256 ≡ true
-unfolding below ofInt ofBits mul add sub div lt
-lifts = refl
-
-module _ (r : ℕ) (h : r < 256) where
-  pub position-finite : finite (resonancePositionOf r) ≡ true
-  position-finite = below-at (λ r. finite (resonancePositionOf r)) 256 positions r h
-
-  pub feedback-finite : finite (feedbackScaleOf (resonancePositionOf r)) ≡ true
-  feedback-finite = below-at (λ r. finite (feedbackScaleOf (resonancePositionOf r))) 256 feedbacks r h
-
-  pub modulation-finite : finite (modulationScaleOf (resonancePositionOf r)) ≡ true
-  modulation-finite = below-at (λ r. finite (modulationScaleOf (resonancePositionOf r))) 256 modulations r h
-
-  pub lift-finite : finite (resonanceOutputGainOf (liftPositionOf (resonancePositionOf r))) ≡ true
-  lift-finite = below-at (λ r. finite (resonanceOutputGainOf (liftPositionOf (resonancePositionOf r)))) 256 lifts r h
+pub lift-finite : (r : ℕ) → r < 256 → finite (resonanceOutputGainOf (liftPositionOf (resonancePositionOf r))) ≡ true
+lift-finite r h = below-at (λ r. finite (resonanceOutputGainOf (liftPositionOf (resonancePositionOf r)))) 256 lifts r h

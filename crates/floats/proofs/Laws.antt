@@ -5,13 +5,13 @@ use Prim.Native.Nat.{ℕ, zero, suc, _+_, _-_, _*_, _/_, _%_, _^_, _≤_, _<_, m
 use native.Mathlib.Nat.{zero-div, zero-mul, add-mod-left, mod-eq-of-lt, mod-lt, mul-div-mul-right, div-lt-iff-lt-mul, div-le-self, le-div-iff-mul-le, le-trans, le-of-eq, le-suc, lt-of-lt-of-le, lt-irrefl, lt-of-le-of-lt, mul-comm}
 use native.Mathlib.Omega.{arith}
 use borrow.Author.Tests.{ltb-true, ltb-false, lt-leb, ne-eqb}
-use lib.IntN.{ℤ, pos, negsuc, negℤ, _-ℤ_, +ℤ-idl}
+use lib.IntN.{ℤ, pos, negℤ, _-ℤ_, +ℤ-idl}
 use mir.Syntax.{w16}
 use mir.Val.{SFits, toZ, ofZ}
 use mir.ValLaws.{toZ-pos, toZ-ofZ}
-use lib.Dec.{T, ltb, leb, eqb, eqb→eq, lit<}
+use lib.Dec.{T, ltb, eqb, lit<}
 use lib.Pow.{pow-add, pow-pos}
-use lib.Ieee.{Float, nan, inf, fin, Format, binary32, binary64, prec, emax, low, hid, ones, top, up, down, lt, eq, ne, neg, odd, ofFields, ofBits, toBits, fits, isNan, nanBits, toUnsigned, toSigned, ofInt}
+use lib.Ieee.{Float, nan, inf, fin, Format, binary32, binary64, prec, low, hid, ones, top, up, down, lt, eq, ne, neg, ofFields, ofBits, toBits, fits, isNan, nanBits, toUnsigned, toSigned, ofInt}
 use lib.Ieee.Scale.{finite}
 use lib.Ieee.Bits.{ofBits-toBits, toBits-lt, nanBits-is}
 use lib.Ieee.Digits.{back}
@@ -20,6 +20,12 @@ use lib.Ieee.Exact.{HasValue, odd-sign}
 use lib.Ieee.Fits.{down-pos}
 use lib.Ieee.Nearest.{div-same}
 use Rattle.floats.specs.Floats.{absOf, ofSmall}
+
+-- ---- two tests at once
+
+pub both : (a b : Bool) → (a && b) ≡ true → (a ≡ true) × (b ≡ true)
+both true b h = (refl, h)
+both false b h = absurd (true≢false (sym h))
 
 -- ---- a NaN, told by a test
 

@@ -3,3 +3,4 @@ pub mod Laws
 pub mod Narrowing
 pub mod Range
 pub mod Rounding
+pub mod Sized

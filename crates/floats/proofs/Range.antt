@@ -4,14 +4,14 @@
 use mathlib.Core.Path.{_≡_, refl, sym, ap, _∙_, subst}
 use mathlib.Core.Logic.{_⊎_, inl, inr}
 use mathlib.Core.Bool.{Bool, true, false, not, _&&_, _||_, cond, true≢false}
-use Prim.Native.Nat.{ℕ, zero, suc, _+_, _-_, _*_, _/_, _%_, _^_, _≤_, _<_, min, suc-le-suc}
-use native.Mathlib.Nat.{lt-irrefl, le-trans, le-of-eq, le-of-lt, lt-of-lt-of-le, lt-of-le-of-lt, eq-zero-or-pos, zero-lt-suc, zero-mul, one-mul, mul-one, mul-comm, mul-assoc, mul-right-comm, mul-mul-mul-comm, mul-le-mul, mul-le-mul-right, mul-lt-mul-of-pos-right, le-of-mul-le-mul-right, mul-pos, div-le-of-le-mul, div-mul-le-self, mod-lt, mod-le, mod-one, zero-mod, mod-eq-sub-div-mul, mul-sub, lt-of-mul-lt-mul-right, lt-of-not-le, not-le-of-lt}
+use Prim.Native.Nat.{ℕ, zero, suc, _+_, _-_, _*_, _/_, _%_, _^_, _≤_, _<_, min}
+use native.Mathlib.Nat.{lt-irrefl, le-trans, le-antisymm, le-of-suc-le-suc, le-div-iff-mul-le, div-lt-iff-lt-mul, le-of-eq, le-of-lt, lt-of-lt-of-le, lt-of-le-of-lt, eq-zero-or-pos, zero-lt-suc, zero-mul, one-mul, mul-one, mul-comm, mul-assoc, mul-right-comm, mul-mul-mul-comm, mul-le-mul, mul-le-mul-right, mul-lt-mul-of-pos-right, le-of-mul-le-mul-right, mul-pos, div-le-of-le-mul, div-mul-le-self, mod-lt, mod-le, mod-one, zero-mod, mod-eq-sub-div-mul, mul-sub, lt-of-mul-lt-mul-right, not-le-of-lt}
 use native.Mathlib.Omega.{arith}
-use borrow.Author.Tests.{ltb-false}
+use borrow.Author.Tests.{ltb-true, ltb-false}
 use lib.IntN.{ℤ, pos, negsuc}
-use lib.Dec.{T, ltb, leb, eqb, ltb→lt, lt→ltb, eqb→eq, leb→le, le→leb, lit<, lit≤}
-use lib.Pow.{pow-add, pow-pos, pow-mono, pow-lt, shl-lt}
-use lib.Ieee.{Float, nan, inf, fin, Format, binary32, binary64, prec, emax, low, up, down, round, sub, mul, div, lt, le, ofInt, ofBits, toUnsigned, inFloat, fits, isNan}
+use lib.Dec.{T, ltb, eqb, ltb→lt, lt→ltb, eqb→eq, lit<, lit≤}
+use lib.Pow.{pow-add, pow-pos}
+use lib.Ieee.{Float, nan, inf, fin, Format, binary32, binary64, prec, emax, low, up, down, round, sub, mul, div, lt, le, ofInt, ofBits, toUnsigned, fits, isNan}
 use lib.Ieee.Fits.{up-pos, down-pos, and-i, and-l, and-r, eq→eqb, mul-fits, div-fits}
 use lib.Ieee.Digits.{back}
 use lib.Ieee.Exact.{HasValue, round-exact}
@@ -80,7 +80,7 @@ le-within (fin false l g) (fin false m e) (fin false n d) k hz hy a b =
 one-pos : 0 < 1
 one-pos = zero-lt-suc 0
 
-round-within : (f : Format) (a c k : ℕ) → 0 < c → k ≤ 2 ^ prec f → a ≤ k * c → Within (round f false a c) k
+pub round-within : (f : Format) (a c k : ℕ) → 0 < c → k ≤ 2 ^ prec f → a ≤ k * c → Within (round f false a c) k
 round-within f a c k C K h =
     le-within (round f false 0 1) (round f false a c) (round f false k 1) k
     (round-whole f false 0 (le-of-lt (pow-pos (prec f)))) (round-whole f false k K)
@@ -154,6 +154,40 @@ within-index w nan k u = absurd u
 within-index w (inf s) k u = absurd u
 within-index w (fin true m e) k u = omega arith
 within-index w (fin false m e) k u = capped (m * up e / down e) (2 ^ w - 1) k (div-le-of-le-mul (down e) (le-trans u (le-of-eq (mul-comm k (down e)))))
+
+-- ---- the index, by a test against a whole number
+below-index : (x y : Float) (k : ℕ) → HasValue y false (suc k) 1 → lt x y ≡ true → toUnsigned 64 x ≤ k
+unfolding toUnsigned lt
+below-index nan y k v h = omega arith
+below-index (inf true) y k v h = omega arith
+below-index (fin true m e) y k v h = omega arith
+below-index (inf false) nan k v h = absurd v
+below-index (inf false) (inf s) k v h = absurd v
+below-index (inf false) (fin s n d) k v h = absurd (true≢false (sym h))
+below-index (fin false m e) nan k v h = absurd v
+below-index (fin false m e) (inf s) k v h = absurd v
+below-index (fin false m e) (fin true n d) k v h = absurd (true≢false (v .0))
+below-index (fin false m e) (fin false n d) k v h =
+    let c : m * up e * down d < suc k * down e * down d =
+    lt-of-lt-of-le (ltb-true (m * up e * down d) (n * up d * down e) h) (le-of-eq (ap (λ (z : ℕ). z * down e) (sym (mul-one (n * up d)) ∙ v .1) ∙ mul-right-comm (suc k) (down d) (down e))) in
+    capped (m * up e / down e) (2 ^ 64 - 1) k (le-of-suc-le-suc (div-lt-iff-lt-mul (down-pos e) .1 (lt-of-mul-lt-mul-right (down d) c)))
+
+from-index : (y x : Float) (k : ℕ) → HasValue y false k 1 → k < 2 ^ 64 → T (le y x) → k ≤ toUnsigned 64 x
+unfolding toUnsigned le
+from-index nan x k v w h = absurd v
+from-index (inf s) x k v w h = absurd v
+from-index (fin true l g) x k v w h = absurd (true≢false (v .0))
+from-index (fin false l g) nan k v w h = absurd h
+from-index (fin false l g) (inf true) k v w h = absurd h
+from-index (fin false l g) (inf false) k v w h = omega arith
+from-index (fin false l g) (fin true m e) k v w h =
+    let none : l * up g * down e ≡ 0 = eqb→eq (l * up g * down e) 0 (and-r (eqb (l * up g * down e) (m * up e * down g)) (eqb (l * up g * down e) 0) h) in
+    le-of-eq (no-factor k (down g) (down-pos g) (sym (v .1) ∙ mul-one (l * up g) ∙ no-factor (l * up g) (down e) (down-pos e) none))
+from-index (fin false l g) (fin false m e) k v w h =
+    let c : k * down e * down g ≤ m * up e * down g =
+    le-trans (le-of-eq (mul-right-comm k (down e) (down g) ∙ ap (λ (z : ℕ). z * down e) (sym (v .1) ∙ mul-one (l * up g)))) (lt-or-eq (l * up g * down e) (m * up e * down g) h) in
+    let q : k ≤ m * up e / down e = le-div-iff-mul-le (down-pos e) .1 (le-of-mul-le-mul-right c (down-pos g)) in
+    omega arith
 
 -- ---- Rust's clamp
 -- the same where the clamp is two `if`s that both fell through
@@ -314,6 +348,10 @@ whole-upto {x} {k} h = record { within = value-within x k (h .value) }
 pub upto-more : {x : Float} {j k : ℕ} → j ≤ k → Upto x j → Upto x k
 upto-more {x} {j} {k} h u = record { within = within-more x j k h (u .within) }
 
+-- a whole number that is at most k
+pub ofInt-upto : (f : Format) {n k : ℕ} → n ≤ k → k ≤ 2 ^ prec f → Upto (ofInt f (pos n)) k
+ofInt-upto f {n} h K = upto-more h (whole-upto (ofInt-whole f n (le-trans h K)))
+
 -- r is x.clamp(lo, hi)
 pub clamp-upto : {lo hi r : Float} {k : ℕ} (x : Float) → Whole lo 0 → Whole hi k → T (not (isNan x)) → r ≡ clampOf x lo hi → Upto r k
 clamp-upto {lo} {hi} {r} {k} x a b h e = record { within = subst (λ (z : Float). Within z k) (sym e) (clamp-within lo hi x k (a .value) (b .value) h) }
@@ -327,6 +365,16 @@ div-upto f {x} {y} {j} {k} J K u h = record { within = div-within f x y j k J K 
 -- i is x truncated
 pub upto-index : {x : Float} {k i : ℕ} → Upto x k → i ≡ toUnsigned 64 x → i ≤ k
 upto-index {x} {k} u e = le-trans (le-of-eq e) (within-index 64 x k (u .within))
+
+-- The law of the guessed index: a float that is below the whole number k + 1 truncates to k at most, one that is no less than k to k at least, and one between them to k.
+pub index-below : {y : Float} {k : ℕ} (x : Float) → Whole y (suc k) → lt x y ≡ true → toUnsigned 64 x ≤ k
+index-below {y} {k} x b h = below-index x y k (b .value) h
+
+pub index-from : {y : Float} {k : ℕ} (x : Float) → Whole y k → k < 2 ^ 64 → le y x ≡ true → k ≤ toUnsigned 64 x
+index-from {y} {k} x a w h = from-index y x k (a .value) w (subst T (sym h) tt)
+
+pub index-between : {y z : Float} {k : ℕ} (x : Float) → Whole y k → Whole z (suc k) → k < 2 ^ 64 → le y x ≡ true → lt x z ≡ true → k ≡ toUnsigned 64 x
+index-between x a b w g h = le-antisymm (index-from x a w g) (index-below x b h)
 
 -- every operation's result fits its format: `mul-fits`, `div-fits` of lib.Ieee.Fits
 pub upto-fraction : (f : Format) {x : Float} {k i : ℕ} → Upto x k → k ≤ 2 ^ prec f → T (fits f x) → i ≡ toUnsigned 64 x → Fraction (sub f x (ofInt f (pos i)))
@@ -376,7 +424,7 @@ module _ (f : Format) {lo hi n y : Float} {j k : ℕ} (J : 0 < j) (K : j * k ≤
 -- ---- the same of a whole number c that is at most j
 module _ (f : Format) {n y : Float} {j k : ℕ} (J : 0 < j) (L : j ≤ 2 ^ prec f) (K : j * k ≤ 2 ^ prec f) (d : Whole n k) (e : Whole y j) (c : ℕ) (h : c ≤ j) where
   count-upto : Upto (div f (mul f (ofInt f (pos c)) n) y) k
-  count-upto = scaled-upto f J K (upto-more h (whole-upto (ofInt-whole f c (le-trans h L)))) d e
+  count-upto = scaled-upto f J K (ofInt-upto f h L) d e
 
   pub count-index-law : toUnsigned 64 (div f (mul f (ofInt f (pos c)) n) y) ≤ k
   count-index-law = upto-index count-upto refl

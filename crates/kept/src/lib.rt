@@ -176,7 +176,8 @@ fn read_gain(bundle: &[u8], r: FilterRegisters, effective: u16) -> Read
     }
 }
 
-// What a write of any register changes of the gain: its value, or the refusal of an entry or of a number that is not finite.
+// What a write of any register changes of the gain: its value, or the refusal of an entry or of a gain that is not finite. The output's
+// numbers are finite at every write (`output-finite`).
 pub fn refresh_gain(bundle: &[u8], r: FilterRegisters, effective: u16) -> Read
     ensures { λ g. ⌜ g ≡ K.gainOf (now (bundle .entry)) r effective ⌝ }
 {
@@ -184,7 +185,7 @@ pub fn refresh_gain(bundle: &[u8], r: FilterRegisters, effective: u16) -> Read
     match read {
         Read::Refused(answer) => Read::Refused(answer),
         Read::Value(gain) => {
-            if floats::is_finite(gain) & finite::output_finite(r) {
+            if floats::is_finite(gain) {
                 return Read::Value(gain);
             }
             Read::Refused(Answer::Domain)

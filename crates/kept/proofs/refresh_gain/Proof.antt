@@ -1,10 +1,12 @@
 use mathlib.Core.Path.{refl, sym, _∙_}
 use mathlib.Core.Bool.{_&&_}
+use native.Mathlib.Omega.{arith}
 use lib.Ieee.Scale.{finite}
 use Rattle.answers.specs.declared.Answer.the-variants.{Domain}
 use Rattle.bundle.proofs.Reading.{first-refused, test-passed, test-failed}
 use Rattle.controls.specs.Controls.{outputControlsOf}
 use Rattle.controls.specs.Judging.{finiteOutputOf}
+use Rattle.finite.proofs.Finite.{output-finite}
 use Rattle.kept.specs.Kept.{judgeGainOf}
 use borrow.Author.Needs.{needs}
 use Rattle.kept.proofs.refresh_gain.Statement.{statement}
@@ -22,15 +24,13 @@ enum-known-read-2 c = search needs
 is-finite-requires : tie.Need-is-finite-requires
 is-finite-requires c κs = search needs
 
-output-finite-requires : tie.Need-output-finite-requires
-output-finite-requires c κs = search needs
-
 returns : tie.Need-returns
 unfolding judgeGainOf
 returns c =
-    let g = c .before .before .before .before .before .before in
-    let a = g .before .before .args in
-    test-passed _ _ (λ x. finite x && finiteOutputOf (outputControlsOf (a .r))) Domain (sym (c .before .before .before .before .read2 .given .1) ∙ g .read-gain .ensures) (simp (← c .before .before .is-finite .ensures, ← c .before .output-finite .ensures) (c .if1 .taken))
+    let g = c .before .before .before .before .before in
+    let r = g .before .before .args .r in
+    test-passed _ _ (λ x. finite x && finiteOutputOf (outputControlsOf r)) Domain (sym (c .before .before .before .read2 .given .1) ∙ g .read-gain .ensures)
+    (simp (sym (c .before .is-finite .ensures) ∙ c .if1 .taken, output-finite r (omega arith) (omega arith)))
 
 returns-2 : tie.Need-returns-2
 unfolding judgeGainOf
@@ -39,9 +39,10 @@ returns-2 c = first-refused _ _ _ _ (sym (c .before .read .given .1) ∙ c .befo
 returns-3 : tie.Need-returns-3
 unfolding judgeGainOf
 returns-3 c =
-    let g = c .before .before .before .before .before .before in
-    let a = g .before .before .args in
-    test-failed _ _ (λ x. finite x && finiteOutputOf (outputControlsOf (a .r))) Domain refl (sym (c .before .before .before .before .read2 .given .1) ∙ g .read-gain .ensures) (simp (← c .before .before .is-finite .ensures, ← c .before .output-finite .ensures) (c .if1 .left))
+    let g = c .before .before .before .before .before in
+    let r = g .before .before .args .r in
+    test-failed _ _ (λ x. finite x && finiteOutputOf (outputControlsOf r)) Domain refl (sym (c .before .before .before .read2 .given .1) ∙ g .read-gain .ensures)
+    (simp (sym (c .before .is-finite .ensures) ∙ c .if1 .left))
 
 pub refresh-gain-spec : {M : Type 1} → statement M
 refresh-gain-spec =
@@ -51,7 +52,6 @@ refresh-gain-spec =
     enum-known-read
     enum-known-read-2
     is-finite-requires
-    output-finite-requires
     returns
     returns-2
     returns-3)
