@@ -1,12 +1,12 @@
 -- Laws of the layout, and of the entries that a call reads.
 use Prim.Native.Nat.{ℕ, zero, suc, _+_, _-_, _*_, _/_, _%_, _^_, _≤_, _<_}
-use mathlib.Core.Path.{_≡_, refl, ap, _∙_}
+use mathlib.Core.Path.{_≡_, refl, sym, ap, _∙_}
 use mathlib.Core.Bool.{Bool, true, false, cond}
 use mathlib.Core.Logic.{⊎-elim}
 use mathlib.Core.List.{List, [], _∷_, _++_}
 use native.Mathlib.Omega.{arith}
 use native.Mathlib.Numerals.{add-one}
-use native.Mathlib.Nat.{zero-div, zero-mod, div-one, div-div-eq-div-mul}
+use native.Mathlib.Nat.{add-zero, zero-div, zero-mod, div-one, div-div-eq-div-mul}
 use lib.IntN.{ℤ, pos, negsuc}
 use lib.ListN.{length, getD, drop, List·getD-append}
 use lib.Pow.{pow-add}
@@ -16,10 +16,11 @@ use mir.Val.{ofZ, SFits}
 use Rattle.answers.specs.declared.Buffer.{Buffer}
 use Rattle.answers.specs.declared.Answer.the-variants.{Done, Entry}
 use Rattle.answers.specs.Answers.{firstOf}
-use Rattle.wire.specs.Wire.{bytesOf, usableAt}
-use Rattle.wire.proofs.Laws.{le-or-lt, length-bytesOf}
-use Rattle.bundle.specs.Layout.{words, displacementIndexOf}
-use Rattle.bundle.specs.Opening.{judgePlacesOf}
+use Rattle.wire.specs.Wire.{little, bytesOf, Bytes, byteAt, usableAt}
+use Rattle.wire.proofs.Laws.{le-or-lt, length-bytesOf, bytesOf-little}
+use borrow.Author.Tests.{eq-eqb}
+use Rattle.bundle.specs.Layout.{bundleLength, sections, pairs, words, header, displacementIndexOf}
+use Rattle.bundle.specs.Opening.{headerByte, judgePlacesOf}
 
 -- ---- the bytes of numbers that stand one after the other
 
@@ -50,6 +51,34 @@ byte-of-words (n ∷ rest) k =
   where
     four-on : (n : ℕ) (rest : List ℕ) (j : ℕ) → getD (bytesOf 4 n ++ words rest) (4 + j) 0 ≡ getD (words rest) j 0
     four-on n rest j = rw length-bytesOf at (getD-append-add (bytesOf 4 n) (words rest) j 0)
+
+-- four bytes are the digits of their number
+digit : (a b c d : ℕ) → a < 256 → b < 256 → c < 256 → d < 256 → (j : ℕ) → j < 4 → getD (a ∷ b ∷ c ∷ d ∷ []) j 0 ≡ little (a ∷ b ∷ c ∷ d ∷ []) / 2 ^ (8 * j) % 256
+digit a b c d A B C D j h = ap (λ (bs : List ℕ). getD bs j 0) (sym (bytesOf-little (a ∷ b ∷ c ∷ d ∷ []) bytes)) ∙ byte-of 4 (little (a ∷ b ∷ c ∷ d ∷ [])) j h
+  where
+    bytes : Bytes (a ∷ b ∷ c ∷ d ∷ [])
+    bytes zero = A
+    bytes (suc zero) = B
+    bytes (suc (suc zero)) = C
+    bytes (suc (suc (suc zero))) = D
+    bytes (suc (suc (suc (suc i)))) = omega arith
+
+-- four bytes whose number is word k of the header are the header's
+pub word-told : (s : List ℕ) (k : ℕ) {a b c d : ℕ} → a ≡ byteAt s (4 * k) → b ≡ byteAt s (4 * k + 1) → c ≡ byteAt s (4 * k + 2) → d ≡ byteAt s (4 * k + 3)
+    → a < 256 → b < 256 → c < 256 → d < 256 → little (a ∷ b ∷ c ∷ d ∷ []) ≡ getD (bundleLength ∷ 6 ∷ pairs sections) k 0
+    → (j : ℕ) → j < 4 → headerByte s (4 * k + j) ≡ true
+unfolding headerByte header
+word-told s k {a} {b} {c} {d} is-a is-b is-c is-d A B C D e j h =
+    let q : (4 * k + j) / 4 ≡ k = omega arith in
+    let r : (4 * k + j) % 4 ≡ j = omega arith in
+    eq-eqb _ _ (here j h ∙ digit a b c d A B C D j h ∙ ap (λ (n : ℕ). n / 2 ^ (8 * j) % 256) e ∙ sym (rw (q, r) at (byte-of-words (bundleLength ∷ 6 ∷ pairs sections) (4 * k + j))))
+  where
+    here : (j : ℕ) → j < 4 → byteAt s (4 * k + j) ≡ getD (a ∷ b ∷ c ∷ d ∷ []) j 0
+    here zero h = ap (byteAt s) (add-zero (4 * k)) ∙ sym is-a
+    here (suc zero) h = sym is-b
+    here (suc (suc zero)) h = sym is-c
+    here (suc (suc (suc zero))) h = sym is-d
+    here (suc (suc (suc (suc i)))) h = absurd (omega arith)
 
 -- ---- the displacement's index, from its 16 bits
 

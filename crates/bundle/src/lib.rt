@@ -1,11 +1,12 @@
 // The bundle of tables that the Rust makes: its fixed header, the places of its entries, reading one, and opening.
 ghost use mathlib.Core.Path.{_≡_};
-ghost use Prim.Native.Nat.{_+_, _*_, _≤_, _<_};
+ghost use Prim.Native.Nat.{ℕ, _+_, _*_, _≤_, _<_};
+ghost use mathlib.Core.Bool.{true};
 ghost use lib.ListN.{getD};
-ghost use Rattle.bundle.specs.Layout.{integratorGainPlace, dampingPlace, sourceGainModulationPlace, highpassLoadingPlace, displacementIndexOf, directionalPowerPlace, analogueSurface, header};
+ghost use Rattle.bundle.specs.Layout.{integratorGainPlace, dampingPlace, sourceGainModulationPlace, highpassLoadingPlace, displacementIndexOf, directionalPowerPlace, analogueSurface, bundleLength, sections, pairs, header};
 ghost use mathlib.Core.List.{[], _∷_};
 ghost use Rattle.bundle.specs.Reading.{readOf};
-ghost use Rattle.bundle.specs.Opening.{entryAt, firstDifference, checkOf, judgePlacesOf, judgeSectionOf, openOf};
+ghost use Rattle.bundle.specs.Opening.{entryAt, headerByte, firstDifference, checkOf, judgePlacesOf, judgeSectionOf, openOf};
 use answers::Answer;
 use answers::Buffer;
 
@@ -153,10 +154,24 @@ fn header_byte(i: u32) -> u8
     ((HEADER[(i / 4) as usize] >> (8 * (i % 4))) % 256) as u8
 }
 
-fn first_difference(bundle: &[u8]) -> u32
+// Whether the bundle's word k is the header's: one load and one test. Where it answers so, the four bytes are.
+fn has_word(bundle: &[u8], k: usize, word: u32) -> bool
+    requires { ⌜ (k < 14) × (word ≡ getD (bundleLength ∷ 6 ∷ pairs sections) k 0) ⌝ }
+    ensures { λ r. ⌜ (r ≡ true → (j : ℕ) → j < 4 → headerByte (now (bundle .entry)) (4 * k + j) ≡ true) ⌝ }
+{
+    let a = wire::byte_at(bundle, 4 * k);
+    let b = wire::byte_at(bundle, 4 * k + 1);
+    let c = wire::byte_at(bundle, 4 * k + 2);
+    let d = wire::byte_at(bundle, 4 * k + 3);
+    wire::join4(a, b, c, d) == word
+}
+
+// The first byte that is not the header's, from one on up to which each is.
+fn difference_from(bundle: &[u8], from: u32) -> u32
+    requires { ⌜ (from ≤ 56) × ((k : ℕ) → k < from → headerByte (now bundle) k ≡ true) ⌝ }
     ensures { λ r. ⌜ r ≡ firstDifference (now (bundle .entry)) ⌝ }
 {
-    let mut i = 0;
+    let mut i = from;
     while i < 56 {
         if wire::byte_at(bundle, i as usize) != header_byte(i) {
             return i;
@@ -164,6 +179,21 @@ fn first_difference(bundle: &[u8]) -> u32
         i += 1;
     }
     i
+}
+
+// The first byte that is not the header's, and 56 where there is none: word by word, then in the word that differs.
+fn first_difference(bundle: &[u8]) -> u32
+    ensures { λ r. ⌜ r ≡ firstDifference (now (bundle .entry)) ⌝ }
+{
+    let header = HEADER;
+    let mut k = 0;
+    while k < 14 {
+        if !has_word(bundle, k, header[k]) {
+            return difference_from(bundle, (4 * k) as u32);
+        }
+        k += 1;
+    }
+    56
 }
 
 // The length, then the header: what every call that takes a bundle looks at.

@@ -75,7 +75,7 @@ fn join2(a: u8, b: u8) -> u16
     (a as u16) + 256 * (b as u16)
 }
 
-fn join4(a: u8, b: u8, c: u8, d: u8) -> u32
+pub fn join4(a: u8, b: u8, c: u8, d: u8) -> u32
     ensures { λ r. ⌜ r ≡ little (a ∷ b ∷ c ∷ d ∷ []) ⌝ }
 {
     (a as u32) + 256 * (b as u32) + 65536 * (c as u32) + 16777216 * (d as u32)
