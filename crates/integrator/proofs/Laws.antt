@@ -1,7 +1,7 @@
 -- The finite domain over four substeps by a few tests: a capacitor's next state is finite only where its output and its state are. Assumes nothing.
 use Prim.Native.Nat.{ℕ, zero, suc}
-use mathlib.Core.Path.{_≡_, refl, sym, ap, _∙_}
-use mathlib.Core.Bool.{Bool, true, false, _&&_, cond, true≢false}
+use mathlib.Core.Path.{_≡_, refl, sym, _∙_}
+use mathlib.Core.Bool.{Bool, true, false, _&&_, cond}
 use lib.Ieee.{Float, nan, inf, fin, add, sub, mul, neg, ofBits}
 use lib.Ieee.Scale.{finite}
 use Rattle.floats.specs.Arithmetic.{_⊖_, _⊗_, f32}
@@ -10,7 +10,8 @@ use Rattle.integrator.specs.declared.Coefficients.{Coefficients}
 use Rattle.integrator.specs.declared.IntegratorState.{IntegratorState}
 use Rattle.integrator.specs.declared.Substeps.{Substeps}
 use Rattle.integrator.specs.declared.Substeps.the-variants.{Settled, NotFinite}
-use Rattle.integrator.specs.Integrator.{advanceOf, stateFinite, highFinite, settledOf, substepOf, thenOf, fourSubstepsOf}
+use Rattle.integrator.specs.Integrator.{advanceOf, highFinite, settledOf, substepOf, thenOf, fourSubstepsOf}
+use Rattle.integrator.specs.Tried.{triedOf, triedAfter, withFiniteLow}
 
 -- ---- one capacitor
 
@@ -39,61 +40,87 @@ taken-finite (inf false) (inf true) h = h
 taken-finite (inf false) (inf false) h = h
 taken-finite (fin s m e) (inf t) h = h
 
--- ---- truth values
+-- ---- the tests of one substep
 
-split : (a b : Bool) → (a && b) ≡ true → (a ≡ true) × (b ≡ true)
-split true b h = (refl, h)
-split false b h = (h, absurd (true≢false (sym h)))
+same : {A : Type 0} {x : A} (b : Bool) → cond b x x ≡ x
+same true = refl
+same false = refl
 
-none : (a : Bool) → (a && false) ≡ false
-none true = refl
-none false = refl
+module _ (x : Substeps) where
+  abbrev if-all : Bool → Substeps
+  if-all b = cond b x NotFinite
 
-both : (s h e f : Bool) → (s ≡ true → (e ≡ true) × (f ≡ true)) → (s && h) ≡ (s && h && e && f)
-both false h e f p = refl
-both true false e f p = refl
-both true true e f p = rw (p refl .0, p refl .1)
+  -- the energy e is finite, and an output is where its next state is
+  tests : (b l h p q : Bool) {e : Bool} → e ≡ true → (b ≡ true → p ≡ true) → (l ≡ true → q ≡ true)
+      → if-all (b && l && e && h && p && q) ≡ cond l (cond b (if-all h) NotFinite) NotFinite
+  tests false false h p q is-e is-p is-q = refl
+  tests false true h p q is-e is-p is-q = refl
+  tests true false h p q is-e is-p is-q = refl
+  tests true true false p q is-e is-p is-q = rw is-e
+  tests true true true p q is-e is-p is-q = rw (is-e, is-p refl, is-q refl)
 
--- ---- a substep
+  no-energy : (b l h p q : Bool) {e : Bool} → e ≡ false → if-all (b && l && e && h && p && q) ≡ NotFinite
+  no-energy false l h p q is-e = refl
+  no-energy true false h p q is-e = refl
+  no-energy true true h p q is-e = rw is-e
+
+  in-turn : (b h l : Bool) → cond b (cond h (if-all l) NotFinite) NotFinite ≡ cond l (cond b (if-all h) NotFinite) NotFinite
+  in-turn true true l = refl
+  in-turn true false l = sym (same l)
+  in-turn false h l = sym (same l)
+
+-- ---- substeps in a row
 
 module _ (driven : Float) (k : Coefficients) where
   abbrev step : IntegratorState → Advanced
   step s = advanceOf s driven k
 
-  outputs-finite : (s : IntegratorState) → stateFinite (step s .state) ≡ true → (finite (step s .outputs .«band_pass») ≡ true) × (finite (step s .outputs .«low_pass») ≡ true)
+  abbrev tried : IntegratorState → Substeps
+  tried s = triedOf s driven k
+
+  abbrev bandFinite : Advanced → Bool
+  bandFinite a = finite (a .state .«band_state»)
+
+  abbrev lowFinite : Advanced → Bool
+  lowFinite a = finite (a .state .«low_state»)
+
+  -- a substep is one that was tried, if low's next state is finite
+  substep-is : (s : IntegratorState) → finite (s .«filter_source_energy») ≡ true → substepOf s driven k ≡ cond (lowFinite (step s)) (tried s) NotFinite
+  unfolding substepOf triedOf settledOf advanceOf
+  substep-is s e = tests _ _ _ _ _ _ e (output-finite _ _) (output-finite _ _)
+
+  still-lost : (s : IntegratorState) → finite (s .«low_state») ≡ false → lowFinite (step s) ≡ false
   unfolding advanceOf
-  outputs-finite s h =
-      let p = split _ _ h in
-      let q = split _ _ (p .0) in
-      (output-finite _ _ (q .0), output-finite _ _ (q .1))
+  still-lost s h = go (lowFinite (step s)) refl
+    where
+      go : (b : Bool) → lowFinite (step s) ≡ b → b ≡ false
+      go false e = refl
+      go true e = sym (taken-finite _ _ e) ∙ h
 
-  settled-is : (s : IntegratorState) → (stateFinite (step s .state) && highFinite (step s)) ≡ settledOf (step s)
-  unfolding settledOf
-  settled-is s = both _ _ _ _ (outputs-finite s)
+  -- n more are tried after a substep, and low's last state is tested
+  unfoldable rest : ℕ → Substeps → Substeps
+  rest zero x = withFiniteLow x
+  rest (suc n) x = rest n (triedAfter x driven k)
 
-  -- a state is finite where the next one is
-  state-before : (s : IntegratorState) → stateFinite (step s .state) ≡ true → stateFinite s ≡ true
-  unfolding advanceOf
-  state-before s h =
-      let p = split _ _ h in
-      let q = split _ _ (p .0) in
-      rw (taken-finite _ _ (q .0), taken-finite _ _ (q .1), p .1) refl
+  rest-none : (n : ℕ) → rest n NotFinite ≡ NotFinite
+  unfolding rest triedAfter withFiniteLow
+  rest-none zero = refl
+  rest-none (suc n) = rest-none n
 
-  -- ---- substeps in a row: how many more come after the first
+  rest-tried : (n : ℕ) (s : IntegratorState) → rest n (tried s) ≡ cond (bandFinite (step s)) (cond (highFinite (step s)) (rest n (Settled (step s))) NotFinite) NotFinite
+  unfolding triedOf
+  rest-tried n s = by (bandFinite (step s)) (highFinite (step s))
+    where
+      by : (b h : Bool) → rest n (cond b (cond h (Settled (step s)) NotFinite) NotFinite) ≡ cond b (cond h (rest n (Settled (step s))) NotFinite) NotFinite
+      by true true = refl
+      by true false = rest-none n
+      by false h = rest-none n
 
-  unfoldable last : ℕ → IntegratorState → Advanced
-  last zero s = step s
-  last (suc n) s = last n (step s .state)
-
-  -- the high output of each, and the last state
-  unfoldable tests : ℕ → IntegratorState → Bool
-  tests zero s = stateFinite (step s .state) && highFinite (step s)
-  tests (suc n) s = highFinite (step s) && tests n (step s .state)
-
-  held : (n : ℕ) (s : IntegratorState) → tests n s ≡ true → stateFinite s ≡ true
-  unfolding tests
-  held zero s h = state-before s (split (stateFinite (step s .state)) (highFinite (step s)) h .0)
-  held (suc n) s h = state-before s (held n (step s .state) (split (highFinite (step s)) (tests n (step s .state)) h .1))
+  -- where low's state is not finite, no later one is
+  lost : (n : ℕ) (s : IntegratorState) → finite (s .«low_state») ≡ false → rest n (tried s) ≡ NotFinite
+  unfolding rest triedAfter withFiniteLow
+  lost zero s h = rw (rest-tried zero s, still-lost s h, same (highFinite (step s)), same (bandFinite (step s)))
+  lost (suc n) s h = rw (rest-tried (suc n) s, lost n (step s .state) (still-lost s h), same (highFinite (step s)), same (bandFinite (step s)))
 
   unfoldable more : ℕ → Substeps → Substeps
   more zero x = x
@@ -104,22 +131,30 @@ module _ (driven : Float) (k : Coefficients) where
   more-none zero = refl
   more-none (suc n) = more-none n
 
-  row-told : (n : ℕ) (s : IntegratorState) → more n (substepOf s driven k) ≡ cond (tests n s) (Settled (last n s)) NotFinite
-  unfolding substepOf thenOf more tests last
-  row-told zero s = rw (settled-is s) refl
-  row-told (suc n) s = go (stateFinite (step s .state)) (highFinite (step s)) (tests n (step s .state)) refl refl refl (row-told n (step s .state))
-    where
-      go : (f h t : Bool) → stateFinite (step s .state) ≡ f → highFinite (step s) ≡ h → tests n (step s .state) ≡ t
-          → more n (substepOf (step s .state) driven k) ≡ cond (tests n (step s .state)) (Settled (last n (step s .state))) NotFinite
-          → more n (thenOf (cond (settledOf (step s)) (Settled (step s)) NotFinite) driven k) ≡ cond (highFinite (step s) && tests n (step s .state)) (Settled (last n (step s .state))) NotFinite
-      go true true t f h i rest = rw (← settled-is s, f, h) rest
-      go true false t f h i rest = rw (← settled-is s, f, h) (more-none n)
-      go false h true f e i rest = absurd (true≢false (sym (held n (step s .state) i) ∙ f))
-      go false h false f e i rest = rw (← settled-is s, f, i, none (highFinite (step s))) (more-none n)
+  energy-kept : (s : IntegratorState) → finite (s .«filter_source_energy») ≡ true → finite (step s .state .«filter_source_energy») ≡ true
+  unfolding advanceOf
+  energy-kept s e = e
 
--- what `four_substeps` answers, by its tests
-pub four-told : (s : IntegratorState) (driven : Float) (k : Coefficients) {a b c d : Advanced}
-    → a ≡ advanceOf s driven k → b ≡ advanceOf (a .state) driven k → c ≡ advanceOf (b .state) driven k → d ≡ advanceOf (c .state) driven k
-    → (t : Bool) → (highFinite a && (highFinite b && (highFinite c && (stateFinite (d .state) && highFinite d)))) ≡ t → cond t (Settled d) NotFinite ≡ fourSubstepsOf s driven k
-unfolding fourSubstepsOf more tests last
-four-told s driven k is-a is-b is-c is-d t h = rw (← h, is-d, is-c, is-b, is-a) (sym (row-told driven k 3 s))
+  row-told : (n : ℕ) (s : IntegratorState) → finite (s .«filter_source_energy») ≡ true → rest n (tried s) ≡ more n (substepOf s driven k)
+  unfolding more thenOf rest triedOf triedAfter withFiniteLow
+  row-told zero s e = rw (substep-is s e, rest-tried zero s) (in-turn (Settled (step s)) (bandFinite (step s)) (highFinite (step s)) (lowFinite (step s)))
+  row-told (suc n) s e =
+      rw (substep-is s e, rest-tried (suc n) s) (go (lowFinite (step s)) (bandFinite (step s)) (highFinite (step s)) refl (row-told n (step s .state) (energy-kept s e)))
+    where
+      go : (l b h : Bool) → lowFinite (step s) ≡ l → rest n (tried (step s .state)) ≡ more n (substepOf (step s .state) driven k)
+          → cond b (cond h (rest n (tried (step s .state))) NotFinite) NotFinite ≡ more n (thenOf (cond l (cond b (cond h (Settled (step s)) NotFinite) NotFinite) NotFinite) driven k)
+      go true true true is-l told = told
+      go true true false is-l told = sym (more-none n)
+      go true false h is-l told = sym (more-none n)
+      go false b h is-l told = rw (lost n (step s .state) is-l, same h, same b) (sym (more-none n))
+
+-- what `four_substeps` answers, by its test of the energy
+module _ (s : IntegratorState) (driven : Float) (k : Coefficients) where
+  pub four-told : finite (s .«filter_source_energy») ≡ true
+      → withFiniteLow (triedAfter (triedAfter (triedAfter (triedOf s driven k) driven k) driven k) driven k) ≡ fourSubstepsOf s driven k
+  unfolding fourSubstepsOf more rest
+  four-told e = row-told driven k 3 s e
+
+  pub four-none : finite (s .«filter_source_energy») ≡ false → NotFinite ≡ fourSubstepsOf s driven k
+  unfolding fourSubstepsOf thenOf substepOf settledOf advanceOf
+  four-none e = rw (no-energy (Settled (advanceOf s driven k)) _ _ _ _ _ e)

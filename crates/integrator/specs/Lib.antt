@@ -1,1 +1,2 @@
 pub mod Integrator
+pub mod Tried

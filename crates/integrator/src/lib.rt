@@ -1,8 +1,9 @@
 // The nonlinear state-variable integrator of the 6581's filter: two capacitors, whose states are the band-pass and the low-pass;
 // high-pass is worked out from the input and the feedback.
 ghost use mathlib.Core.Path.{_≡_};
-ghost use mathlib.Core.Bool.{_&&_};
-ghost use Rattle.integrator.specs.Integrator.{saturateOf, advanceOf, stateFinite, highFinite, fourSubstepsOf};
+ghost use Rattle.floats.specs.Arithmetic.{_⊕_, _⊖_, _⊗_, f32};
+ghost use Rattle.integrator.specs.Integrator.{saturateOf, advanceOf, fourSubstepsOf};
+ghost use Rattle.integrator.specs.Tried.{concludedOf, triedOf, triedAfter, withFiniteLow};
 
 #[repr(C)]
 pub struct FilterOutputs {
@@ -52,66 +53,124 @@ impl IntegratorState {
         value * (27.0 + square) / (27.0 + 9.0 * square)
     }
 
-    // One substep of the two capacitors by the trapezoidal rule.
-    pub fn advance(self, driven_input: f32, k: Coefficients) -> Advanced
-        ensures { λ r. ⌜ r ≡ advanceOf self «driven_input» k ⌝ }
+    // What the capacitors are fed: the driven input, less the damping of what saturation adds to the band.
+    fn effective_input(self, driven_input: f32, k: Coefficients) -> f32
+        ensures { λ r. ⌜ r ≡ «driven_input» ⊖ k .damping ⊗ (saturateOf (self .«band_state») (k .«feedback_drive») ⊖ self .«band_state») ⌝ }
     {
-        let damping = k.damping;
         let previous_band = self.band_state;
-        let previous_low = self.low_state;
         let nonlinear_band = IntegratorState::saturate(previous_band, k.feedback_drive);
-        let effective_input = driven_input - damping * (nonlinear_band - previous_band);
-        let residual = effective_input - previous_low;
-        let band = k.a1 * previous_band + k.a2 * residual;
-        let low = previous_low + k.a2 * previous_band + k.a3 * residual;
-        let high = effective_input - damping * band - low;
+        driven_input - k.damping * (nonlinear_band - previous_band)
+    }
+
+    fn band_output(self, residual: f32, k: Coefficients) -> f32
+        ensures { λ r. ⌜ r ≡ k .a1 ⊗ self .«band_state» ⊕ k .a2 ⊗ residual ⌝ }
+    {
+        k.a1 * self.band_state + k.a2 * residual
+    }
+
+    fn low_output(self, residual: f32, k: Coefficients) -> f32
+        ensures { λ r. ⌜ r ≡ self .«low_state» ⊕ k .a2 ⊗ self .«band_state» ⊕ k .a3 ⊗ residual ⌝ }
+    {
+        self.low_state + k.a2 * self.band_state + k.a3 * residual
+    }
+
+    // A capacitor's next state by the trapezoidal rule, from its output and the state before.
+    fn trapezoidal(output: f32, previous: f32) -> f32
+        ensures { λ r. ⌜ r ≡ f32 0x4000_0000 ⊗ output ⊖ previous ⌝ }
+    {
+        2.0 * output - previous
+    }
+
+    // The outputs and the next state of a substep whose band and low are worked out.
+    fn concluded(self, effective_input: f32, damping: f32, band: f32, low: f32) -> Advanced
+        ensures { λ r. ⌜ r ≡ concludedOf self «effective_input» damping band low ⌝ }
+    {
         Advanced {
             outputs: FilterOutputs {
-                high_pass: high,
+                high_pass: effective_input - damping * band - low,
                 band_pass: band,
                 low_pass: low,
             },
             state: IntegratorState {
-                band_state: 2.0 * band - previous_band,
-                low_state: 2.0 * low - previous_low,
+                band_state: IntegratorState::trapezoidal(band, self.band_state),
+                low_state: IntegratorState::trapezoidal(low, self.low_state),
                 filter_source_energy: self.filter_source_energy,
             },
         }
     }
 
-    // The four substeps of one sample, with the same input and coefficients, and whether the state and the outputs stayed finite in each. A state is finite
-    // where the next one is, so that of the first three substeps the high output alone is looked at.
+    // One substep of the two capacitors.
+    pub fn advance(self, driven_input: f32, k: Coefficients) -> Advanced
+        ensures { λ r. ⌜ r ≡ advanceOf self «driven_input» k ⌝ }
+    {
+        let effective_input = self.effective_input(driven_input, k);
+        let residual = effective_input - self.low_state;
+        let band = self.band_output(residual, k);
+        let low = self.low_output(residual, k);
+        self.concluded(effective_input, k.damping, band, low)
+    }
+
+    // The same, and whether band's next state and the high output are finite. The test between band and low keeps the compiler from pairing the two in one
+    // vector, whose shuffles would stand on the chain of the substeps.
+    fn substep(self, driven_input: f32, k: Coefficients) -> Substeps
+        ensures { λ r. ⌜ r ≡ triedOf self «driven_input» k ⌝ }
+    {
+        let effective_input = self.effective_input(driven_input, k);
+        let residual = effective_input - self.low_state;
+        let band = self.band_output(residual, k);
+        if floats::is_finite(IntegratorState::trapezoidal(band, self.band_state)) {
+            let low = self.low_output(residual, k);
+            let advanced = self.concluded(effective_input, k.damping, band, low);
+            let outputs = advanced.outputs;
+            if floats::is_finite(outputs.high_pass) {
+                return Substeps::Settled(advanced);
+            }
+        }
+        Substeps::NotFinite
+    }
+
+    // The four substeps of one sample, with the same input and coefficients, and whether the state and the outputs stayed finite in each. Low's state is finite
+    // where the next one is, so that the last alone is looked at; the energy stays what it is.
     pub fn four_substeps(self, driven_input: f32, k: Coefficients) -> Substeps
         ensures { λ r. ⌜ r ≡ fourSubstepsOf self «driven_input» k ⌝ }
     {
-        let first = self.advance(driven_input, k);
-        let second = first.state.advance(driven_input, k);
-        let third = second.state.advance(driven_input, k);
-        let fourth = third.state.advance(driven_input, k);
-        let later = high_finite(third) & all_finite(fourth);
-        if high_finite(first) & (high_finite(second) & later) {
-            return Substeps::Settled(fourth);
+        if floats::is_finite(self.filter_source_energy) {
+            let first = self.substep(driven_input, k);
+            let second = substep_after(first, driven_input, k);
+            let third = substep_after(second, driven_input, k);
+            let fourth = substep_after(third, driven_input, k);
+            return with_finite_low(fourth);
         }
         Substeps::NotFinite
     }
 }
 
-fn high_finite(a: Advanced) -> bool
-    ensures { λ r. ⌜ r ≡ highFinite a ⌝ }
+// A further substep, where the last one stayed in the domain.
+fn substep_after(last: Substeps, driven_input: f32, k: Coefficients) -> Substeps
+    ensures { λ r. ⌜ r ≡ triedAfter last «driven_input» k ⌝ }
 {
-    let outputs = a.outputs;
-    floats::is_finite(outputs.high_pass)
+    match last {
+        Substeps::Settled(advanced) => {
+            let state = advanced.state;
+            state.substep(driven_input, k)
+        }
+        Substeps::NotFinite => Substeps::NotFinite,
+    }
 }
 
-// The band and the low output are finite where their next states are, so they are not tested again.
-fn all_finite(a: Advanced) -> bool
-    ensures { λ r. ⌜ r ≡ (stateFinite (a .state) && highFinite a) ⌝ }
+fn with_finite_low(last: Substeps) -> Substeps
+    ensures { λ r. ⌜ r ≡ withFiniteLow last ⌝ }
 {
-    let state = a.state;
-    floats::is_finite(state.band_state)
-        & floats::is_finite(state.low_state)
-        & floats::is_finite(state.filter_source_energy)
-        & high_finite(a)
+    match last {
+        Substeps::Settled(advanced) => {
+            let state = advanced.state;
+            if floats::is_finite(state.low_state) {
+                return Substeps::Settled(advanced);
+            }
+            Substeps::NotFinite
+        }
+        Substeps::NotFinite => Substeps::NotFinite,
+    }
 }
 
 // `IntegratorState::advance` over a state that is lent to be changed: the value form, stored.
