@@ -1,15 +1,18 @@
 -- The positions lie in their tables, so that an index is a float exactly. Assumes nothing.
-use mathlib.Core.Path.{_≡_, refl, sym, ap, _∙_}
-use Prim.Native.Nat.{ℕ, _+_, _*_, _≤_, _<_, min}
+use mathlib.Core.Path.{_≡_, refl, sym, _∙_}
+use mathlib.Core.Bool.{Bool, true, not, _&&_}
+use Prim.Native.Nat.{ℕ, _+_, _≤_, _<_, min}
 use native.Mathlib.Nat.{le-trans}
 use native.Mathlib.Omega.{arith}
-use lib.Dec.{lit≤, lit<}
+use borrow.Author.Tests.{not-true}
+use native.Mathlib.Numerals.{add-one}
+use lib.Dec.{T, lit≤}
 use lib.IntN.{pos}
-use lib.Ieee.{Float, binary32, ofInt, toUnsigned}
+use lib.Ieee.{Float, binary32, ofInt, ofBits, toUnsigned, isNan, eq, lt, le}
 use Rattle.floats.specs.Arithmetic.{_⊖_, _⊗_, _⊘_, f32}
-use Rattle.floats.specs.Floats.{ofSmall}
-use Rattle.floats.proofs.Laws.{small-exact}
-use Rattle.floats.proofs.Range.{bin-index, loading-index, loading-any}
+use Rattle.floats.specs.Floats.{clampOf, ofSmall}
+use Rattle.floats.proofs.Laws.{both, equal-no-nan, small-exact}
+use Rattle.floats.proofs.Range.{Whole, ofInt-whole, index-below, index-between, bin-index, loading-index, loading-any}
 use Rattle.response.specs.declared.TablePosition.{TablePosition}
 use Rattle.response.specs.Position.{activityOf, operatingPositionOf, loadingPositionOf}
 
@@ -38,3 +41,42 @@ pub loading-told : (cutoff : ℕ) {c w : Float} {n u : ℕ} → cutoff < 65536 �
     → _≡_ {A = TablePosition} (record { lower = n; upper = u; fraction = c ⊗ f32 0x41f8_0000 ⊘ f32 0x44ff_e000 ⊖ w }) (loadingPositionOf cutoff)
 unfolding loadingPositionOf
 loading-told cutoff h e n u w = rw e (position-told 31 (ofInt binary32 (pos cutoff) ⊗ f32 0x41f8_0000 ⊘ f32 0x44ff_e000) (loading-any cutoff h) (rw e at n) u w)
+
+-- ---- a guessed bin
+
+-- two floats that equal themselves
+pub no-nans : (x y : Float) → (eq x x && eq y y) ≡ true → T (not (isNan x)) × T (not (isNan y))
+no-nans x y h = let p = both (eq x x) (eq y y) h in (equal-no-nan x (p .0), equal-no-nan y (p .1))
+
+small-whole : {n : ℕ} → n ≤ 16777216 → Whole (ofSmall n) n
+small-whole {n} h = rw (small-exact h) (ofInt-whole binary32 n h)
+
+-- a bin g that the position lies in: w is g as a float, and v the next
+pub guess-told : (p : Float) {v w : Float} (g : ℕ) → g < 15 → w ≡ ofSmall g → v ≡ ofSmall (g + 1) → (le w p && lt p v) ≡ true → g ≡ toUnsigned 64 p
+guess-told p {v} {w} g h is-w is-v t =
+    let q = both (le w p) (lt p v) t in
+    index-between p (rw is-w (small-whole (omega arith))) (rw (is-v, add-one) (small-whole (omega arith))) (omega arith) (q .0) (q .1)
+
+fifteen : Whole (f32 0x4170_0000) 15
+unfolding ofBits
+fifteen = record { value = (refl, refl) }
+
+-- s is the activity before it is clamped, where nothing bounds it
+abbrev Free : Float → Bool
+Free s = not (lt s (f32 0)) && not (lt (f32 0x3f80_0000) s)
+
+module _ (s : Float) (h : (Free s && lt (s ⊗ f32 0x4170_0000) (f32 0x4170_0000)) ≡ true) where
+  pub near-index : toUnsigned 64 (s ⊗ f32 0x4170_0000) ≤ 14
+  near-index = index-below (s ⊗ f32 0x4170_0000) fifteen (both (Free s) (lt (s ⊗ f32 0x4170_0000) (f32 0x4170_0000)) h .1)
+
+  unclamped : clampOf s (f32 0) (f32 0x3f80_0000) ≡ s
+  unclamped =
+      let p = both (not (lt s (f32 0))) (not (lt (f32 0x3f80_0000) s)) (both (Free s) (lt (s ⊗ f32 0x4170_0000) (f32 0x4170_0000)) h .0) in
+      rw (not-true (lt s (f32 0)) (p .0), not-true (lt (f32 0x3f80_0000) s) (p .1))
+
+  pub near-told : (input band low : Float) {w : Float} {n : ℕ} → clampOf s (f32 0) (f32 0x3f80_0000) ≡ activityOf input band low → n ≡ toUnsigned 64 (s ⊗ f32 0x4170_0000) → w ≡ ofSmall n
+      → _≡_ {A = TablePosition} (record { lower = n; upper = n + 1; fraction = s ⊗ f32 0x4170_0000 ⊖ w }) (operatingPositionOf input band low)
+  near-told input band low {w} {n} e is-n is-w =
+      let few : n ≤ 14 = rw is-n near-index in
+      let next : n + 1 ≡ min (n + 1) 15 = omega arith in
+      operating-told input band low (sym unclamped ∙ e) is-n next is-w

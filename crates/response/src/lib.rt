@@ -1,7 +1,12 @@
 // The stateless laws of the analogue response: what follows from registers and levels alone.
 ghost use mathlib.Core.Path.{_≡_};
 ghost use Prim.Native.Nat.{_+_, min};
-ghost use Rattle.response.specs.Levels.{analogueSpanOf, normaliseVoltageOf, quiescentLevelOf, addIf, branchSumOf, loadedOf, conductanceCodeOf, between, cutoffPositionOf, outputCommonModeOf};
+ghost use mathlib.Core.Bool.{not};
+ghost use lib.Dec.{T};
+ghost use lib.Ieee.{isNan, toUnsigned};
+ghost use Rattle.floats.specs.Arithmetic.{f32};
+ghost use Rattle.floats.specs.Floats.{absOf, clampOf};
+ghost use Rattle.response.specs.Levels.{analogueSpanOf, normaliseVoltageOf, quiescentLevelOf, addIf, branchSumOf, conductanceCodeOf, between, cutoffPositionOf, outputCommonModeOf};
 ghost use Rattle.response.specs.Position.{activityOf, operatingPositionOf, loadingPositionOf};
 ghost use Rattle.response.specs.Gain as G;
 
@@ -132,6 +137,60 @@ pub fn operating_position(input: f32, band: f32, low: f32) -> TablePosition
         upper: next_index(lower, 15),
         fraction: position - floats::of_usize(lower),
     }
+}
+
+// x.abs() of a number that is no NaN, without a selection: a NaN has no bits to clear.
+fn magnitude(x: f32) -> f32
+    requires { ⌜ T (not (isNan x)) ⌝ }
+    ensures { λ r. ⌜ r ≡ absOf x ⌝ }
+{
+    f32::from_bits(f32::to_bits(x) % 0x8000_0000)
+}
+
+// The activity before it is clamped, of capacitors that are no NaNs.
+fn plain_activity(input: f32, band: f32, low: f32) -> f32
+    requires { ⌜ T (not (isNan band)) × T (not (isNan low)) ⌝ }
+    ensures { λ r. ⌜ clampOf r (f32 0) (f32 0x3f80_0000) ≡ activityOf input band low ⌝ }
+{
+    0.45 * floats::abs(input) + 0.33 * magnitude(band) + 0.22 * magnitude(low)
+}
+
+// The lower bin alone, as a guess from capacitors that are there early: `operating_position_near` tests it.
+pub fn guessed_bin(input: f32, band: f32, low: f32) -> usize
+    ensures { λ r. ⌜ r ≡ operatingPositionOf input band low .lower ⌝ }
+{
+    floats::as_usize(activity(input, band, low) * 15.0)
+}
+
+// The whole part of a position, which is most often what it was guessed to be: then nothing waits for the conversion.
+fn bin_near(position: f32, guess: usize) -> usize
+    ensures { λ r. ⌜ r ≡ toUnsigned 64 position ⌝ }
+{
+    if guess < 15 {
+        if (floats::of_usize(guess) <= position) & (position < floats::of_usize(guess + 1)) {
+            return guess;
+        }
+    }
+    floats::as_usize(position)
+}
+
+// `operating_position`, with a guess of its lower bin. Where it lies below the last bin nothing is clamped.
+pub fn operating_position_near(input: f32, band: f32, low: f32, guess: usize) -> TablePosition
+    ensures { λ r. ⌜ r ≡ operatingPositionOf input band low ⌝ }
+{
+    if (band == band) & (low == low) {
+        let sum = plain_activity(input, band, low);
+        let position = sum * 15.0;
+        if !(sum < 0.0) & !(1.0 < sum) & (position < 15.0) {
+            let lower = bin_near(position, guess);
+            return TablePosition {
+                lower,
+                upper: lower + 1,
+                fraction: position - floats::of_usize(lower),
+            };
+        }
+    }
+    operating_position(input, band, low)
 }
 
 // The entries of a loading table that a cutoff lies between; up to 2,047 the lower is at most 31.
