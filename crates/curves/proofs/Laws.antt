@@ -12,7 +12,7 @@ use Rattle.bundle.specs.Opening.{judgePlacesOf}
 use Rattle.bundle.proofs.Laws.{judge-append}
 use Rattle.response.specs.declared.TablePosition.{TablePosition}
 use Rattle.curves.specs.declared.LoadPosition.{LoadPosition}
-use Rattle.curves.specs.Sampling.{loadPositionOf, inputPositionOf, tablePlace, cornersOf}
+use Rattle.curves.specs.Sampling.{loadPositionOf, inputPositionOf, tablePlace, cornersOf, curvePlace}
 
 module _ (conductance : Float) where
   pub load-lower : loadPositionOf conductance .«lower_base» ≤ 294912
@@ -44,3 +44,7 @@ unfolding cornersOf
 corners-apart bundle load at =
     judge-append Bundle bundle (tablePlace (load .«lower_base» + at .lower) ∷ tablePlace (load .«lower_base» + at .upper) ∷ [])
     (tablePlace (load .«upper_base» + at .lower) ∷ tablePlace (load .«upper_base» + at .upper) ∷ [])
+
+-- the entry after an entry of a curve
+pub next-place : (curve index : ℕ) → curvePlace curve index + 4 ≡ curvePlace curve (index + 1)
+next-place curve index = omega arith

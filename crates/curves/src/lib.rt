@@ -211,8 +211,8 @@ pub fn read_curve(curves: &[u8], curve: u8, input: f32) -> Read
     ensures { λ r. ⌜ r ≡ readOf (judgePlacesOf Curves (now (curves .entry)) (sampleCurvePlacesOf curve input)) (sampleCurveOf (now (curves .entry)) curve input) ⌝ }
 {
     let at = input_position(input);
-    let places = sample_curve_places(curve, input);
-    read_between(Buffer::Curves, curves, places[0], places[1], at.fraction)
+    let lower = curve_place(curve, at.lower);
+    read_between(Buffer::Curves, curves, lower, lower + 4, at.fraction)
 }
 
 // ---- the summer at rest

@@ -24,8 +24,8 @@ use Rattle.mixing.specs.declared.MixingTopology.{MixingTopology}
 use Rattle.mixing.specs.Topology.{topologyOf}
 use Rattle.bundle.specs.Layout.{highpassLoadingPlace}
 use Rattle.bundle.specs.Opening.{checkOf, entryAt, judgePlacesOf}
-use Rattle.transfers.specs.Transfers.{mixerOf, judgeMixerOf, volumeOf, judgeVolumeOf}
-use Rattle.sample.specs.Sample.{summerOf, judgeSummerOf}
+use Rattle.transfers.specs.Transfers.{mixerSlotOf, mixerOf, judgeMixerOf, volumeSlotOf, volumeOf, judgeVolumeOf}
+use Rattle.sample.specs.Sample.{summerSlotOf, summerOf, judgeSummerOf}
 use Rattle.direct.specs.declared.Valued.{Valued}
 use Rattle.direct.specs.declared.Stepped.{Stepped}
 use Rattle.direct.specs.declared.Routed.{Routed}
@@ -51,10 +51,10 @@ summerAnswerOf bundle curves t sum =
     (firstOf (curvesLengthOf curves)
     (firstOf (unlessOf (leb (t .«filter_input_count») 4 && finite (t .«summer_input_reciprocal»)) Argument)
     (firstOf (unlessOf (finite sum) InputNotFinite)
-    (judgeSummerOf bundle curves t sum))))
+    (judgeSummerOf bundle curves (summerSlotOf t) t sum))))
 
 unfoldable pub summerCallOf : List ℕ → List ℕ → MixingTopology → Float → Valued
-summerCallOf bundle curves t sum = finishedOf (summerAnswerOf bundle curves t sum) (summerOf bundle curves t sum)
+summerCallOf bundle curves t sum = finishedOf (summerAnswerOf bundle curves t sum) (summerOf bundle curves (summerSlotOf t) t sum)
 
 -- `mixer_transfer`: 4, 10, 9, 3, 6
 unfoldable pub mixerAnswerOf : List ℕ → MixingTopology → Float → Answer
@@ -62,20 +62,20 @@ mixerAnswerOf curves t sum =
     firstOf (curvesLengthOf curves)
     (firstOf (unlessOf (finite (t .«mixer_input_reciprocal») && finite sum) Argument)
     (firstOf (unlessOf (leb (t .«mixer_input_count») 7) MixerInputs)
-    (judgeMixerOf curves t sum)))
+    (judgeMixerOf curves (mixerSlotOf (t .«mixer_input_count»)) t sum)))
 
 unfoldable pub mixerCallOf : List ℕ → MixingTopology → Float → Valued
-mixerCallOf curves t sum = finishedOf (mixerAnswerOf curves t sum) (mixerOf curves t sum)
+mixerCallOf curves t sum = finishedOf (mixerAnswerOf curves t sum) (mixerOf curves (mixerSlotOf (t .«mixer_input_count»)) t sum)
 
 -- `volume_transfer`: 4, 10, 3, 6
 unfoldable pub volumeAnswerOf : List ℕ → ℕ → Float → Answer
 volumeAnswerOf curves volume value =
     firstOf (curvesLengthOf curves)
     (firstOf (unlessOf (leb volume 15 && finite value) Argument)
-    (judgeVolumeOf curves volume value))
+    (judgeVolumeOf curves (volumeSlotOf volume) value))
 
 unfoldable pub volumeCallOf : List ℕ → ℕ → Float → Valued
-volumeCallOf curves volume value = finishedOf (volumeAnswerOf curves volume value) (volumeOf curves volume value)
+volumeCallOf curves volume value = finishedOf (volumeAnswerOf curves volume value) (volumeOf curves (volumeSlotOf volume) value)
 
 -- ---- the integrator
 

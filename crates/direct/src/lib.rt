@@ -66,12 +66,13 @@ pub fn summer_transfer(
 ) -> Valued
     ensures { λ r. ⌜ r ≡ C.summerCallOf (now (bundle .entry)) (now (curves .entry)) topology «input_sum» ⌝ }
 {
-    let value = sample::summer_transfer(bundle, curves, topology, input_sum);
+    let slot = sample::summer_slot(topology);
+    let value = sample::summer_transfer(bundle, curves, slot, topology, input_sum);
     let known = (topology.filter_input_count <= 4)
         & floats::is_finite(topology.summer_input_reciprocal);
     let argument = answers::unless(known, Answer::Argument);
     let sum = answers::unless(floats::is_finite(input_sum), Answer::InputNotFinite);
-    let entries = sample::judge_summer(bundle, curves, topology, input_sum);
+    let entries = sample::judge_summer(bundle, curves, slot, topology, input_sum);
     let judged = answers::first(argument, answers::first(sum, entries));
     let long = answers::first(curves_length(curves), judged);
     finished(answers::first(bundle::check(bundle), long), value)
@@ -81,11 +82,12 @@ pub fn summer_transfer(
 pub fn mixer_transfer(curves: &[u8], topology: MixingTopology, input_sum: f32) -> Valued
     ensures { λ r. ⌜ r ≡ C.mixerCallOf (now (curves .entry)) topology «input_sum» ⌝ }
 {
-    let value = transfers::mixer_transfer(curves, topology, input_sum);
+    let slot = transfers::mixer_slot(topology.mixer_input_count);
+    let value = transfers::mixer_transfer(curves, slot, topology, input_sum);
     let finite = floats::is_finite(topology.mixer_input_reciprocal) & floats::is_finite(input_sum);
     let argument = answers::unless(finite, Answer::Argument);
     let count = answers::unless(topology.mixer_input_count <= 7, Answer::MixerInputs);
-    let entries = transfers::judge_mixer(curves, topology, input_sum);
+    let entries = transfers::judge_mixer(curves, slot, topology, input_sum);
     let judged = answers::first(argument, answers::first(count, entries));
     finished(answers::first(curves_length(curves), judged), value)
 }
@@ -94,9 +96,10 @@ pub fn mixer_transfer(curves: &[u8], topology: MixingTopology, input_sum: f32) -
 pub fn volume_transfer(curves: &[u8], volume: u8, value: f32) -> Valued
     ensures { λ r. ⌜ r ≡ C.volumeCallOf (now (curves .entry)) volume value ⌝ }
 {
-    let output = transfers::volume_transfer(curves, volume, value);
+    let slot = transfers::volume_slot(volume);
+    let output = transfers::volume_transfer(curves, slot, value);
     let argument = answers::unless((volume <= 15) & floats::is_finite(value), Answer::Argument);
-    let entries = transfers::judge_volume(curves, volume, value);
+    let entries = transfers::judge_volume(curves, slot, value);
     let judged = answers::first(argument, entries);
     finished(answers::first(curves_length(curves), judged), output)
 }

@@ -5,12 +5,11 @@ use mathlib.Core.Path.{_≡_, refl, sym, ap, _∙_, subst}
 use mathlib.Core.Bool.{Bool, true, false, not, cond, _&&_, true≢false}
 use mathlib.Core.List.{List, [], _∷_}
 use native.Mathlib.Omega.{arith}
-use lib.Dec.{leb}
 use lib.Ieee.{Float, ofBits, ofInt, div}
 use lib.Ieee.Scale.{finite}
 use borrow.Author.Tests.{le-leb}
 use Rattle.answers.specs.declared.Answer.{Answer}
-use Rattle.answers.specs.declared.Answer.the-variants.{Done, InputNotFinite, Domain, Argument}
+use Rattle.answers.specs.declared.Answer.the-variants.{Done, Domain, Argument}
 use Rattle.answers.specs.Answers.{isDoneOf, firstOf, unlessOf}
 use Rattle.answers.proofs.Laws.{done-is, first-done, first-assoc, unless-done}
 use Rattle.bundle.specs.Opening.{checkOf}
@@ -23,7 +22,7 @@ use Rattle.mixing.proofs.Facts.{filter-most, output-most, mixer-most}
 use Rattle.control.specs.declared.State.{State}
 use Rattle.control.specs.Registers.{startingState, effectiveCutoffOf, writeCutoffLowOf, writeCutoffHighOf, writeSignalRoutingOf, writeModeAndVolumeOf}
 use Rattle.control.specs.Block.{validOf, finiteFloats}
-use Rattle.control.proofs.Valid.{Ranges, valid-ranges, effective-within, floats-valid, low-valid, high-valid, routing-valid, mode-valid, starting-valid}
+use Rattle.control.proofs.Valid.{valid-ranges, effective-within, floats-valid, low-valid, high-valid, routing-valid, mode-valid, starting-valid}
 use Rattle.controls.specs.declared.FilterControls.{FilterControls}
 use Rattle.controls.specs.declared.ControlCache.{ControlCache}
 use Rattle.controls.specs.Controls.{filterControlsOf, modeGainOf, outputControlsOf, controlsOf}
@@ -31,12 +30,11 @@ use Rattle.controls.specs.Judging.{judgeFilterOf, judgeModeOf, judgeControlsOf,
 use Rattle.sample.specs.declared.Outputs.{Outputs}
 use Rattle.sample.specs.declared.Sampled.{Sampled}
 use Rattle.sample.specs.declared.Sampled.the-variants.{Taken, Refused}
-use Rattle.sample.specs.Sample.{sampleOf, judgeSampleOf, takenOf, advanceCoreOf, selectOf}
+use Rattle.sample.specs.Sample.{summerSlotOf, sampleOf, judgeSampleOf, takenOf, advanceCoreOf, selectOf}
 use Rattle.sample.proofs.Valid.{finiteTaken, sample-kept}
 use Rattle.script.specs.declared.Event.{Event}
 use Rattle.script.specs.declared.Event.the-variants.{CutoffLow, CutoffHigh, Routing, Mode, Sample, Reset}
 use Rattle.filter.specs.declared.Core.{Core}
-use Rattle.filter.specs.declared.Written.{Written}
 use Rattle.filter.specs.declared.Fed.{Fed}
 use Rattle.filter.specs.Core.{freshTopologyOf, coreOf, judgeLentOf, judgeStateOf, judgeWriteOf, judgeCoreOf, countableOf, soundOf, settledOf, quietOf, withIntegrator, afterOf, startAnswerOf, startedOf, refreshedOf, reselectedOf, lowWrittenOf, highWrittenOf, routingWrittenOf, modeWrittenOf, resetOf, sampledOf, fedOf}
 use Rattle.filter.specs.Plain.{Plain, plainStart, plainChange, plainTaken, plainSample, plainStep, plainTrace}
@@ -169,11 +167,11 @@ taken-refuses c count mode (Settled a) = go (finite (selectOf c count mode (a .o
     go true o i = refl
     go false o i = refl
 
-pub sample-refuses : (bundle curves : List ℕ) (t : MixingTopology) (c : ControlCache) (mode : ℕ) (i : IntegratorState) (sum energy : Float) → refuses (sampleOf bundle curves t c mode i sum energy) ≡ true
+pub sample-refuses : (bundle curves : List ℕ) (slot : ℕ) (t : MixingTopology) (c : ControlCache) (mode : ℕ) (i : IntegratorState) (sum energy : Float) → refuses (sampleOf bundle curves slot t c mode i sum energy) ≡ true
 unfolding sampleOf refuses
-sample-refuses bundle curves t c mode i sum energy =
-    let judged = judgeSampleOf bundle curves t i sum energy in
-    let moved = advanceCoreOf bundle curves t (c .filter) i sum energy in
+sample-refuses bundle curves slot t c mode i sum energy =
+    let judged = judgeSampleOf bundle curves slot t i sum energy in
+    let moved = advanceCoreOf bundle curves slot t (c .filter) i sum energy in
     go judged (takenOf c (t .«filter_output_count») mode moved) (isDoneOf judged) refl (taken-refuses c (t .«filter_output_count») mode moved)
   where
     go : (judged : Answer) (x : Sampled) (d : Bool) → isDoneOf judged ≡ d → refuses x ≡ true → refuses (cond d x (Refused judged)) ≡ true
@@ -202,7 +200,7 @@ fresh-countable routing mode =
 
 module _ (bundle curves : List ℕ) (s : State) (sum energy : Float) (lent : judgeLentOf bundle curves ≡ Done) (valid : validOf s ≡ true) (judged : judgeControlsOf bundle s ≡ Done) where
   abbrev sampled : Sampled
-  sampled = sampleOf bundle curves (freshTopologyOf s) (controlsOf bundle s) (s .registers .mode) (s .integrator) sum energy
+  sampled = sampleOf bundle curves (summerSlotOf (freshTopologyOf s)) (freshTopologyOf s) (controlsOf bundle s) (s .registers .mode) (s .integrator) sum energy
 
   fresh-kept : Kept bundle (coreOf bundle s)
   fresh-kept = record { valid = valid; fresh = refl; judged = judged }
@@ -242,8 +240,8 @@ module _ (bundle curves : List ℕ) (s : State) (sum energy : Float) (lent : jud
   unfolding sampledOf
   sample-steps =
       rw (core-judged, ← sample-plain)
-      (after-taken sampled (sample-refuses bundle curves _ _ _ (s .integrator) sum energy)
-      (sample-kept bundle curves _ (s .integrator) sum energy _ _ (valid-ranges s valid .floats)))
+      (after-taken sampled (sample-refuses bundle curves _ _ _ _ (s .integrator) sum energy)
+      (sample-kept bundle curves _ _ (s .integrator) sum energy _ _ (valid-ranges s valid .floats)))
 
 -- ---- any event
 

@@ -24,7 +24,7 @@ use Rattle.controls.specs.Judging.{judgeModeOf, judgeControlsOf, finiteOutputOf
 use Rattle.sample.specs.declared.Outputs.{Outputs}
 use Rattle.sample.specs.declared.Sampled.{Sampled}
 use Rattle.sample.specs.declared.Sampled.the-variants.{Taken, Refused}
-use Rattle.sample.specs.Sample.{sampleOf}
+use Rattle.sample.specs.Sample.{summerSlotOf, sampleOf}
 use Rattle.script.specs.declared.Event.{Event}
 use Rattle.script.specs.declared.Event.the-variants.{CutoffLow, CutoffHigh, Routing, Mode, Sample, Reset}
 use Rattle.filter.specs.declared.Core.{Core}
@@ -137,7 +137,7 @@ unfoldable pub sampledOf : List ℕ → List ℕ → Core → Float → Float �
 sampledOf bundle curves k sum energy =
     let judged = judgeCoreOf bundle curves k in
     cond (isDoneOf judged)
-    (afterOf k (sampleOf bundle curves (k .topology) (k .controls) (k .state .registers .mode) (k .state .integrator) sum energy))
+    (afterOf k (sampleOf bundle curves (summerSlotOf (k .topology)) (k .topology) (k .controls) (k .state .registers .mode) (k .state .integrator) sum energy))
     (quietOf (record { answer = judged; core = k }))
 
 -- ---- any event

@@ -304,6 +304,7 @@ impl Core {
             let sampled = sample::sample(
                 bundle,
                 curves,
+                sample::summer_slot(topology),
                 topology,
                 controls,
                 registers.mode,

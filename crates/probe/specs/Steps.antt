@@ -9,7 +9,7 @@ use Rattle.control.specs.declared.State.{State}
 use Rattle.controls.specs.Controls.{controlsOf}
 use Rattle.sample.specs.declared.Sampled.{Sampled}
 use Rattle.sample.specs.declared.Sampled.the-variants.{Taken, Refused}
-use Rattle.sample.specs.Sample.{sampleOf}
+use Rattle.sample.specs.Sample.{summerSlotOf, sampleOf}
 use Rattle.probe.specs.declared.steps.Step.{Step}
 
 -- an answer by its numbers, and the numbers of a sample that was taken
@@ -42,4 +42,5 @@ stepOf (Refused a) = record {
 -- a sample on what a state's registers give, worked out afresh
 unfoldable pub sampledOf : List ℕ → List ℕ → State → Float → Float → Sampled
 sampledOf bundle curves s sum energy =
-    sampleOf bundle curves (topologyOf (s .registers .routing) (s .registers .mode)) (controlsOf bundle s) (s .registers .mode) (s .integrator) sum energy
+    let topology = topologyOf (s .registers .routing) (s .registers .mode) in
+    sampleOf bundle curves (summerSlotOf topology) topology (controlsOf bundle s) (s .registers .mode) (s .integrator) sum energy

@@ -1,8 +1,8 @@
 // The direct calls of the filter's parts, and the total transfers behind the first three.
 ghost use mathlib.Core.Path.{_≡_};
 ghost use Rattle.response.specs.Levels.{quiescentLevelOf};
-ghost use Rattle.sample.specs.Sample.{summerOf};
-ghost use Rattle.transfers.specs.Transfers.{mixerOf, volumeOf};
+ghost use Rattle.sample.specs.Sample.{summerSlotOf, summerOf};
+ghost use Rattle.transfers.specs.Transfers.{mixerSlotOf, mixerOf, volumeSlotOf, volumeOf};
 ghost use Rattle.direct.specs.Calls as C;
 ghost use Rattle.probe.specs.Calls.{replyOf, stepReplyOf, routeReplyOf, binReplyOf};
 use direct::Valued;
@@ -89,23 +89,24 @@ pub extern "C" fn probe_any_summer(
     topology: MixingTopology,
     sum: f32,
 ) -> f32
-    ensures { λ r. ⌜ r ≡ summerOf (now (bundle .entry)) (now (curves .entry)) topology sum ⌝ }
+    ensures { λ r. ⌜ r ≡ summerOf (now (bundle .entry)) (now (curves .entry)) (summerSlotOf topology) topology sum ⌝ }
 {
-    sample::summer_transfer(bundle, curves, topology, sum)
+    sample::summer_transfer(bundle, curves, sample::summer_slot(topology), topology, sum)
 }
 
 #[no_mangle]
 pub extern "C" fn probe_any_mixer(curves: &[u8], topology: MixingTopology, sum: f32) -> f32
-    ensures { λ r. ⌜ r ≡ mixerOf (now (curves .entry)) topology sum ⌝ }
+    ensures { λ r. ⌜ r ≡ mixerOf (now (curves .entry)) (mixerSlotOf (topology .«mixer_input_count»)) topology sum ⌝ }
 {
-    transfers::mixer_transfer(curves, topology, sum)
+    let slot = transfers::mixer_slot(topology.mixer_input_count);
+    transfers::mixer_transfer(curves, slot, topology, sum)
 }
 
 #[no_mangle]
 pub extern "C" fn probe_any_volume(curves: &[u8], volume: u8, value: f32) -> f32
-    ensures { λ r. ⌜ r ≡ volumeOf (now (curves .entry)) volume value ⌝ }
+    ensures { λ r. ⌜ r ≡ volumeOf (now (curves .entry)) (volumeSlotOf volume) value ⌝ }
 {
-    transfers::volume_transfer(curves, volume, value)
+    transfers::volume_transfer(curves, transfers::volume_slot(volume), value)
 }
 
 // ---- integrator and topology

@@ -67,6 +67,7 @@ fn sampled(bundle: &[u8], curves: &[u8], s: State, sum: f32, energy: f32) -> Sam
     sample::sample(
         bundle,
         curves,
+        sample::summer_slot(topology),
         topology,
         controls,
         registers.mode,

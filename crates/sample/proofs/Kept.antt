@@ -1,30 +1,25 @@
 -- The sample on kept parts is the sample on the controls that they are parts of. Assumes nothing.
-use Prim.Native.Nat.{ℕ, _≤_}
-use mathlib.Core.Path.{_≡_, refl, sym, ap, _∙_}
+use Prim.Native.Nat.{ℕ}
+use mathlib.Core.Path.{_≡_, refl, _∙_}
 use mathlib.Core.Bool.{Bool, true, false, cond, _&&_}
 use mathlib.Core.List.{List, []}
 use lib.Dec.{leb}
 use lib.Ieee.{Float}
 use lib.Ieee.Scale.{finite}
 use Rattle.answers.specs.declared.Answer.{Answer}
-use Rattle.answers.specs.declared.Answer.the-variants.{InputNotFinite, MixerInputs}
-use Rattle.answers.specs.declared.Buffer.the-variants.{Bundle, Curves}
 use Rattle.answers.specs.Answers.{isDoneOf, firstOf}
 use Rattle.floats.specs.Arithmetic.{_⊖_}
 use Rattle.integrator.specs.declared.IntegratorState.{IntegratorState}
 use Rattle.integrator.specs.declared.Substeps.{Substeps}
 use Rattle.integrator.specs.declared.Substeps.the-variants.{Settled, NotFinite}
 use Rattle.mixing.specs.declared.MixingTopology.{MixingTopology}
-use Rattle.bundle.specs.Opening.{judgePlacesOf}
 use Rattle.bundle.specs.Reading.{readOf}
-use Rattle.curves.specs.Sampling.{sampleCurveOf, sampleCurvePlacesOf, restingOutputOf, restingPlacesOf}
 use Rattle.controls.specs.declared.ControlCache.{ControlCache}
 use Rattle.kept.specs.declared.CoreControls.{CoreControls}
 use Rattle.kept.specs.Kept.{coreControlsOf}
 use Rattle.sample.specs.declared.Fed.{Fed}
 use Rattle.sample.specs.declared.Fed.the-variants.{Idle, Level, Refused as Unfed}
-use Rattle.sample.specs.declared.Sampled.{Sampled}
-use Rattle.sample.specs.Sample.{summerInputsOf, averageOf, summerOf, judgeSummerOf, idleOf, movedOf, atRestOf, advanceCoreOf, mixedOf, selectOf, judgeSampleOf, takenOf, sampleOf}
+use Rattle.sample.specs.Sample.{summerOf, judgeSummerOf, idleOf, movedOf, atRestOf, advanceCoreOf, mixedOf, selectOf, judgeSampleOf, takenOf, sampleOf}
 use Rattle.sample.specs.Kept.{cacheOf, restOf, aboveOf, feedOf, steppedOf, sampleKeptOf}
 
 -- The selection reads no table.
@@ -44,7 +39,7 @@ above-read j k u v = go (isDoneOf j) (isDoneOf k) refl refl
     go true false h i = simp (h, i)
     go false e h i = simp h
 
-module _ (bundle curves : List ℕ) (t : MixingTopology) (c : ControlCache) (mode : ℕ) (s : IntegratorState) (sum energy : Float) where
+module _ (bundle curves : List ℕ) (slot : ℕ) (t : MixingTopology) (c : ControlCache) (mode : ℕ) (s : IntegratorState) (sum energy : Float) where
   -- the parts of the controls
   abbrev parts : ControlCache
   parts = cacheOf (c .filter .«integrator_gain») (c .filter .«input_drive») (c .filter .«feedback_drive») (coreControlsOf (c .filter)) (c .«mode_output_gain»)
@@ -60,18 +55,18 @@ module _ (bundle curves : List ℕ) (t : MixingTopology) (c : ControlCache) (mod
   same-stepped (Level x) = same-taken _
   same-stepped (Unfed a) = refl
 
-  plain : steppedOf t c mode s energy (feedOf curves t (restOf bundle t) s sum energy) ≡ sampleOf bundle curves t c mode s sum energy
+  plain : steppedOf t c mode s energy (feedOf curves slot t (restOf bundle t) s sum energy) ≡ sampleOf bundle curves slot t c mode s sum energy
   unfolding steppedOf feedOf sampleOf judgeSampleOf advanceCoreOf judgeSummerOf summerOf
-  plain = go (finite sum && finite energy) (leb (t .«mixer_input_count») 7) (idleOf (t .«filter_input_count») s) (isDoneOf (judgeSummerOf bundle curves t sum)) refl refl refl refl
+  plain = go (finite sum && finite energy) (leb (t .«mixer_input_count») 7) (idleOf (t .«filter_input_count») s) (isDoneOf (judgeSummerOf bundle curves slot t sum)) refl refl refl refl
     where
       go : (f l i d : Bool) → (finite sum && finite energy) ≡ f → leb (t .«mixer_input_count») 7 ≡ l → idleOf (t .«filter_input_count») s ≡ i
-          → isDoneOf (judgeSummerOf bundle curves t sum) ≡ d
-          → steppedOf t c mode s energy (feedOf curves t (restOf bundle t) s sum energy) ≡ sampleOf bundle curves t c mode s sum energy
+          → isDoneOf (judgeSummerOf bundle curves slot t sum) ≡ d
+          → steppedOf t c mode s energy (feedOf curves slot t (restOf bundle t) s sum energy) ≡ sampleOf bundle curves slot t c mode s sum energy
       go false l i d e g h k = simp e
       go true false i d e g h k = simp (e, g)
       go true true true d e g h k = simp (e, g, h)
       go true true false true e g h k = simp (e, g, h, above-read, k)
       go true true false false e g h k = simp (e, g, h, above-read, k)
 
-  pub kept-is-sample : sampleKeptOf curves t parts (restOf bundle t) mode s sum energy ≡ sampleOf bundle curves t c mode s sum energy
-  kept-is-sample = same-stepped (feedOf curves t (restOf bundle t) s sum energy) ∙ plain
+  pub kept-is-sample : sampleKeptOf curves slot t parts (restOf bundle t) mode s sum energy ≡ sampleOf bundle curves slot t c mode s sum energy
+  kept-is-sample = same-stepped (feedOf curves slot t (restOf bundle t) s sum energy) ∙ plain

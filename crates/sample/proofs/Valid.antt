@@ -135,21 +135,21 @@ unfolding finiteAfter
 rested true s b p q = p
 rested false s b p q = q
 
-module _ (bundle curves : List ℕ) (t : MixingTopology) (s : IntegratorState) (sum energy : Float) where
-  core-kept : (f : FilterControls) → finiteFloats s ≡ true → finiteAfter (advanceCoreOf bundle curves t f s sum energy) ≡ true
+module _ (bundle curves : List ℕ) (slot : ℕ) (t : MixingTopology) (s : IntegratorState) (sum energy : Float) where
+  core-kept : (f : FilterControls) → finiteFloats s ≡ true → finiteAfter (advanceCoreOf bundle curves slot t f s sum energy) ≡ true
   unfolding advanceCoreOf
   core-kept f h =
       let tracked = s .«filter_source_energy» in
       let fed = fedOf (t .«filter_input_count») (t .«filter_input_reciprocal») energy in
-      let input = summerOf bundle curves t sum ⊗ K.FILTER-INPUT-GAIN in
+      let input = summerOf bundle curves slot t sum ⊗ K.FILTER-INPUT-GAIN in
       rested (idleOf (t .«filter_input_count») s) s (movedOf f s input (trackedOf tracked fed)) h
       (moved-kept f s input (trackedOf tracked fed) (holds (fits binary32 (trackedOf tracked fed)) (add-fits binary32 tracked (K.FILTER-SOURCE-ENERGY-TRACKING ⊗ (fed ⊖ tracked)))))
 
   -- the state after a sample, where it was taken
-  pub sample-kept : (c : ControlCache) (mode : ℕ) → finiteFloats s ≡ true → finiteTaken (sampleOf bundle curves t c mode s sum energy) ≡ true
+  pub sample-kept : (c : ControlCache) (mode : ℕ) → finiteFloats s ≡ true → finiteTaken (sampleOf bundle curves slot t c mode s sum energy) ≡ true
   unfolding sampleOf
   sample-kept c mode h =
-      let judged = judgeSampleOf bundle curves t s sum energy in
+      let judged = judgeSampleOf bundle curves slot t s sum energy in
       let count = t .«filter_output_count» in
-      let moved = advanceCoreOf bundle curves t (c .filter) s sum energy in
+      let moved = advanceCoreOf bundle curves slot t (c .filter) s sum energy in
       either (isDoneOf judged) (takenOf c count mode moved) (Refused judged) (taken-kept c count mode moved (core-kept (c .filter) h)) (refused-kept judged)

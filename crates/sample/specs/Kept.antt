@@ -1,7 +1,7 @@
 -- The sample on parts that a run keeps: the tables of the operating bins and the core's numbers apart, and the summer's rest worked out before.
 -- Kept.antt of proofs/ shows that on the parts of a `ControlCache` and a topology's rest it is `sampleOf`.
 use Prim.Native.Nat.{ℕ}
-use mathlib.Core.Bool.{Bool, false, cond, _&&_}
+use mathlib.Core.Bool.{false, cond, _&&_}
 use mathlib.Core.List.{List}
 use lib.Dec.{leb}
 use lib.Ieee.{Float}
@@ -71,10 +71,9 @@ restOf bundle t =
     let inputs = summerInputsOf (t .«filter_input_count») in
     readOf (judgePlacesOf Bundle bundle (restingPlacesOf inputs)) (restingOutputOf bundle inputs)
 
-abbrev pub curveOf : List ℕ → MixingTopology → Float → Read
-curveOf curves t sum =
-    let inputs = summerInputsOf (t .«filter_input_count») in
-    readOf (judgePlacesOf Curves curves (sampleCurvePlacesOf inputs (averageOf t sum))) (sampleCurveOf curves inputs (averageOf t sum))
+abbrev pub curveOf : List ℕ → ℕ → MixingTopology → Float → Read
+curveOf curves slot t sum =
+    readOf (judgePlacesOf Curves curves (sampleCurvePlacesOf slot (averageOf t sum))) (sampleCurveOf curves slot (averageOf t sum))
 
 -- the curve above the rest; the curve's entries are judged first
 unfoldable pub aboveOf : Read → Read → Fed
@@ -82,17 +81,17 @@ aboveOf (Unread a) rest = Unfed a
 aboveOf (Value x) (Unread a) = Unfed a
 aboveOf (Value x) (Value rest) = Level (x ⊖ rest)
 
-abbrev pub summedOf : List ℕ → MixingTopology → Read → Float → Fed
-summedOf curves t rest sum = aboveOf (curveOf curves t sum) rest
+abbrev pub summedOf : List ℕ → ℕ → MixingTopology → Read → Float → Fed
+summedOf curves slot t rest sum = aboveOf (curveOf curves slot t sum) rest
 
 -- ---- the sample
 
 -- 5, 9, and 3 where the sample is not idle
-unfoldable pub feedOf : List ℕ → MixingTopology → Read → IntegratorState → Float → Float → Fed
-feedOf curves t rest s sum energy =
+unfoldable pub feedOf : List ℕ → ℕ → MixingTopology → Read → IntegratorState → Float → Float → Fed
+feedOf curves slot t rest s sum energy =
     cond (finite sum && finite energy)
     (cond (leb (t .«mixer_input_count») 7)
-    (cond (idleOf (t .«filter_input_count») s) Idle (summedOf curves t rest sum))
+    (cond (idleOf (t .«filter_input_count») s) Idle (summedOf curves slot t rest sum))
     (Unfed MixerInputs))
     (Unfed InputNotFinite)
 
@@ -105,5 +104,5 @@ steppedOf t c mode s energy (Level x) =
     (movedOf (c .filter) s (x ⊗ K.FILTER-INPUT-GAIN)
     (trackedOf (s .«filter_source_energy») (fedOf (t .«filter_input_count») (t .«filter_input_reciprocal») energy)))
 
-abbrev pub sampleKeptOf : List ℕ → MixingTopology → ControlCache → Read → ℕ → IntegratorState → Float → Float → Sampled
-sampleKeptOf curves t c rest mode s sum energy = steppedOf t c mode s energy (feedOf curves t rest s sum energy)
+abbrev pub sampleKeptOf : List ℕ → ℕ → MixingTopology → ControlCache → Read → ℕ → IntegratorState → Float → Float → Sampled
+sampleKeptOf curves slot t c rest mode s sum energy = steppedOf t c mode s energy (feedOf curves slot t rest s sum energy)

@@ -28,6 +28,7 @@ use Rattle.bundle.specs.Opening.{judgePlacesOf}
 use Rattle.curves.specs.Sampling.{sampleCurveOf, sampleCurvePlacesOf, restingOutputOf, restingPlacesOf}
 use Rattle.controls.specs.declared.FilterControls.{FilterControls}
 use Rattle.controls.specs.declared.ControlCache.{ControlCache}
+use Rattle.sample.specs.declared.Outputs.{Outputs}
 use Rattle.sample.specs.declared.Sampled.{Sampled}
 use Rattle.sample.specs.declared.Sampled.the-variants.{Taken, Refused}
 
@@ -36,24 +37,28 @@ one = f32 0x3f80_0000
 
 -- ---- `summer_transfer`
 
--- 2 + filter_input_count, which is the summer's curve. A count above 4, which no routing has, counts as 4.
+-- 2 + filter_input_count. A count above 4, which no routing has, counts as 4.
 abbrev pub summerInputsOf : ℕ → ℕ
 summerInputsOf count = 2 + min count 4
+
+-- curves.summer[input_count], by its slot in a buffer of all 31 curves. What follows takes the slot, so that the buffer may hold other curves.
+abbrev pub summerSlotOf : MixingTopology → ℕ
+summerSlotOf t = summerInputsOf (t .«filter_input_count»)
 
 -- (input_sum + 2.0 * quiescent) * summer_input_reciprocal
 abbrev pub averageOf : MixingTopology → Float → Float
 averageOf t sum = (sum ⊕ f32 0x4000_0000 ⊗ quiescentLevelOf) ⊗ t .«summer_input_reciprocal»
 
-unfoldable pub summerOf : List ℕ → List ℕ → MixingTopology → Float → Float
-summerOf bundle curves t sum =
+unfoldable pub summerOf : List ℕ → List ℕ → ℕ → MixingTopology → Float → Float
+summerOf bundle curves slot t sum =
     let inputs = summerInputsOf (t .«filter_input_count») in
-    sampleCurveOf curves inputs (averageOf t sum) ⊖ restingOutputOf bundle inputs
+    sampleCurveOf curves slot (averageOf t sum) ⊖ restingOutputOf bundle inputs
 
 -- what it reads: two entries of the curve, then four of the surface for the resting output
-unfoldable pub judgeSummerOf : List ℕ → List ℕ → MixingTopology → Float → Answer
-judgeSummerOf bundle curves t sum =
+unfoldable pub judgeSummerOf : List ℕ → List ℕ → ℕ → MixingTopology → Float → Answer
+judgeSummerOf bundle curves slot t sum =
     let inputs = summerInputsOf (t .«filter_input_count») in
-    firstOf (judgePlacesOf Curves curves (sampleCurvePlacesOf inputs (averageOf t sum))) (judgePlacesOf Bundle bundle (restingPlacesOf inputs))
+    firstOf (judgePlacesOf Curves curves (sampleCurvePlacesOf slot (averageOf t sum))) (judgePlacesOf Bundle bundle (restingPlacesOf inputs))
 
 -- ---- `advance_filter_core`
 
@@ -98,10 +103,10 @@ movedOf f s input energy =
 abbrev pub atRestOf : IntegratorState → Substeps
 atRestOf s = Settled (record { outputs = record { «high_pass» = f32 0; «band_pass» = f32 0; «low_pass» = f32 0 }; state = s })
 
-unfoldable pub advanceCoreOf : List ℕ → List ℕ → MixingTopology → FilterControls → IntegratorState → Float → Float → Substeps
-advanceCoreOf bundle curves t f s sum energy =
+unfoldable pub advanceCoreOf : List ℕ → List ℕ → ℕ → MixingTopology → FilterControls → IntegratorState → Float → Float → Substeps
+advanceCoreOf bundle curves slot t f s sum energy =
     cond (idleOf (t .«filter_input_count») s) (atRestOf s)
-    (movedOf f s (summerOf bundle curves t sum ⊗ K.FILTER-INPUT-GAIN)
+    (movedOf f s (summerOf bundle curves slot t sum ⊗ K.FILTER-INPUT-GAIN)
     (trackedOf (s .«filter_source_energy») (fedOf (t .«filter_input_count») (t .«filter_input_reciprocal») energy)))
 
 -- ---- `select_filter_output`
@@ -137,11 +142,15 @@ selectOf c count mode o =
 -- ---- the sample
 
 -- 5, 9, and 3 where the sample is not idle
-unfoldable pub judgeSampleOf : List ℕ → List ℕ → MixingTopology → IntegratorState → Float → Float → Answer
-judgeSampleOf bundle curves t s sum energy =
+unfoldable pub judgeSampleOf : List ℕ → List ℕ → ℕ → MixingTopology → IntegratorState → Float → Float → Answer
+judgeSampleOf bundle curves slot t s sum energy =
     firstOf (unlessOf (finite sum && finite energy) InputNotFinite)
     (firstOf (unlessOf (leb (t .«mixer_input_count») 7) MixerInputs)
-    (cond (idleOf (t .«filter_input_count») s) Done (judgeSummerOf bundle curves t sum)))
+    (cond (idleOf (t .«filter_input_count») s) Done (judgeSummerOf bundle curves slot t sum)))
+
+-- the four numbers that a sample gives are finite
+abbrev pub outputsFinite : Outputs → Bool
+outputsFinite o = finite (o .high) && finite (o .band) && finite (o .low) && finite (o .selected)
 
 -- the outputs with the selected value, or 6
 unfoldable pub takenOf : ControlCache → ℕ → ℕ → Substeps → Sampled
@@ -152,7 +161,7 @@ takenOf c count mode (Settled a) =
     (Taken (record { high = a .outputs .«high_pass»; band = a .outputs .«band_pass»; low = a .outputs .«low_pass»; selected = selected }) (a .state))
     (Refused Domain)
 
-unfoldable pub sampleOf : List ℕ → List ℕ → MixingTopology → ControlCache → ℕ → IntegratorState → Float → Float → Sampled
-sampleOf bundle curves t c mode s sum energy =
-    let judged = judgeSampleOf bundle curves t s sum energy in
-    cond (isDoneOf judged) (takenOf c (t .«filter_output_count») mode (advanceCoreOf bundle curves t (c .filter) s sum energy)) (Refused judged)
+unfoldable pub sampleOf : List ℕ → List ℕ → ℕ → MixingTopology → ControlCache → ℕ → IntegratorState → Float → Float → Sampled
+sampleOf bundle curves slot t c mode s sum energy =
+    let judged = judgeSampleOf bundle curves slot t s sum energy in
+    cond (isDoneOf judged) (takenOf c (t .«filter_output_count») mode (advanceCoreOf bundle curves slot t (c .filter) s sum energy)) (Refused judged)

@@ -2,6 +2,7 @@
 ghost use mathlib.Core.Path.{_≡_};
 ghost use Prim.Native.Nat.{_≤_};
 ghost use mathlib.Core.List.{[]};
+ghost use Rattle.response.specs.Position.{operatingPositionOf};
 ghost use Rattle.sample.specs.Sample as S;
 ghost use Rattle.sample.specs.Kept as K;
 use answers::Answer;
@@ -37,7 +38,7 @@ pub enum Sampled {
 
 // ---- summer_transfer
 
-// The filter's inputs with the two that are always there; the summer has no curve for more than six.
+// The filter's inputs with the two that are always there; no routing has more than six.
 fn summer_inputs(count: usize) -> u8
     ensures { λ r. ⌜ r ≡ S.summerInputsOf count ⌝ }
 {
@@ -51,18 +52,26 @@ fn average(topology: MixingTopology, sum: f32) -> f32
     (sum + 2.0 * response::filter_mode_quiescent_level()) * topology.summer_input_reciprocal
 }
 
+// Where the summer's curve stands in a buffer of all 31 curves. Whatever reads a curve takes its slot from its caller.
+pub fn summer_slot(topology: MixingTopology) -> u8
+    ensures { λ r. ⌜ r ≡ S.summerSlotOf topology ⌝ }
+{
+    summer_inputs(topology.filter_input_count)
+}
+
 // The summer's output above its output at rest.
 pub fn summer_transfer(
     bundle: &[u8],
     curves: &[u8],
+    slot: u8,
     topology: MixingTopology,
     input_sum: f32,
 ) -> f32
-    ensures { λ r. ⌜ r ≡ S.summerOf (now (bundle .entry)) (now (curves .entry)) topology «input_sum» ⌝ }
+    ensures { λ r. ⌜ r ≡ S.summerOf (now (bundle .entry)) (now (curves .entry)) slot topology «input_sum» ⌝ }
 {
     let inputs = summer_inputs(topology.filter_input_count);
     let average = average(topology, input_sum);
-    curves::sample_curve(curves, inputs, average)
+    curves::sample_curve(curves, slot, average)
         - curves::summer_resting_output(bundle, inputs as usize)
 }
 
@@ -70,14 +79,15 @@ pub fn summer_transfer(
 pub fn judge_summer(
     bundle: &[u8],
     curves: &[u8],
+    slot: u8,
     topology: MixingTopology,
     input_sum: f32,
 ) -> Answer
-    ensures { λ r. ⌜ r ≡ S.judgeSummerOf (now (bundle .entry)) (now (curves .entry)) topology «input_sum» ⌝ }
+    ensures { λ r. ⌜ r ≡ S.judgeSummerOf (now (bundle .entry)) (now (curves .entry)) slot topology «input_sum» ⌝ }
 {
     let inputs = summer_inputs(topology.filter_input_count);
     let average = average(topology, input_sum);
-    let curve = curves::judge_sample_curve(curves, inputs, average);
+    let curve = curves::judge_sample_curve(curves, slot, average);
     answers::first(
         curve,
         curves::judge_summer_resting_output(bundle, inputs as usize),
@@ -99,11 +109,10 @@ pub enum Fed {
 }
 
 // The summer's output above a rest that is handed in, each entry judged as it is read.
-fn summed(curves: &[u8], topology: MixingTopology, rest: Read, input_sum: f32) -> Fed
-    ensures { λ r. ⌜ r ≡ K.summedOf (now (curves .entry)) topology rest «input_sum» ⌝ }
+fn summed(curves: &[u8], slot: u8, topology: MixingTopology, rest: Read, input_sum: f32) -> Fed
+    ensures { λ r. ⌜ r ≡ K.summedOf (now (curves .entry)) slot topology rest «input_sum» ⌝ }
 {
-    let inputs = summer_inputs(topology.filter_input_count);
-    let curve = curves::read_curve(curves, inputs, average(topology, input_sum));
+    let curve = curves::read_curve(curves, slot, average(topology, input_sum));
     match curve {
         Read::Refused(answer) => Fed::Refused(answer),
         Read::Value(level) => match rest {
@@ -168,7 +177,7 @@ fn coefficients(damping: f32, feedback_drive: f32, g: f32) -> Coefficients
     }
 }
 
-// The core at an input and its new energy.
+// The core at an input, the operating bins that it stands between, and its new energy.
 fn moved(
     gains: &[f32; 16],
     input_drives: &[f32; 16],
@@ -176,11 +185,12 @@ fn moved(
     core: CoreControls,
     s: IntegratorState,
     input: f32,
+    at: TablePosition,
     energy: f32,
 ) -> Substeps
+    requires { ⌜ at ≡ operatingPositionOf input (s .«band_state») (s .«low_state») ⌝ }
     ensures { λ r. ⌜ r ≡ S.movedOf (K.filterOf (now (gains .entry)) (now («input_drives» .entry)) (now («feedback_drives» .entry)) core) s input energy ⌝ }
 {
-    let at = response::operating_position(input, s.band_state, s.low_state);
     let feedback_drive = between_bins(feedback_drives, at) * core.resonance_feedback_scale;
     let input_drive = between_bins(input_drives, at);
     let shift = shift(
@@ -294,29 +304,32 @@ fn taken(
 // Whether the sum and the energy are finite and the mixer's inputs at most 7, then what the summer gives.
 fn feed(
     curves: &[u8],
+    slot: u8,
     topology: MixingTopology,
     rest: Read,
     s: IntegratorState,
     input_sum: f32,
     source_energy: f32,
 ) -> Fed
-    ensures { λ r. ⌜ r ≡ K.feedOf (now (curves .entry)) topology rest s «input_sum» «source_energy» ⌝ }
+    ensures { λ r. ⌜ r ≡ K.feedOf (now (curves .entry)) slot topology rest s «input_sum» «source_energy» ⌝ }
 {
     if floats::is_finite(input_sum) & floats::is_finite(source_energy) {
         if topology.mixer_input_count <= 7 {
             if is_idle(topology.filter_input_count, s) {
                 return Fed::Idle;
             }
-            return summed(curves, topology, rest, input_sum);
+            return summed(curves, slot, topology, rest, input_sum);
         }
         return Fed::Refused(Answer::MixerInputs);
     }
     Fed::Refused(Answer::InputNotFinite)
 }
 
-// One sample of the filter on kept parts as they are handed in, the summer's rest among them.
+// One sample of the filter on kept parts as they are handed in, the summer's rest among them. The operating bin is guessed from `earlier`, capacitors that are
+// there long before those of `s`: what they are does not change the sample, only how soon its tables are read.
 pub fn sample_kept(
     curves: &[u8],
+    slot: u8,
     topology: MixingTopology,
     gains: &[f32; 16],
     input_drives: &[f32; 16],
@@ -326,13 +339,14 @@ pub fn sample_kept(
     rest: Read,
     mode: u8,
     s: IntegratorState,
+    earlier: IntegratorState,
     input_sum: f32,
     source_energy: f32,
 ) -> Sampled
-    ensures { λ r. ⌜ r ≡ K.sampleKeptOf (now (curves .entry)) topology (K.cacheOf (now (gains .entry)) (now («input_drives» .entry)) (now («feedback_drives» .entry)) core «mode_output_gain») rest mode s «input_sum» «source_energy» ⌝ }
+    ensures { λ r. ⌜ r ≡ K.sampleKeptOf (now (curves .entry)) slot topology (K.cacheOf (now (gains .entry)) (now («input_drives» .entry)) (now («feedback_drives» .entry)) core «mode_output_gain») rest mode s «input_sum» «source_energy» ⌝ }
 {
     let count = topology.filter_output_count;
-    let fed = feed(curves, topology, rest, s, input_sum, source_energy);
+    let fed = feed(curves, slot, topology, rest, s, input_sum, source_energy);
     match fed {
         Fed::Idle => taken(core, mode_output_gain, count, mode, at_rest(s)),
         Fed::Refused(answer) => Sampled::Refused { answer },
@@ -342,16 +356,28 @@ pub fn sample_kept(
                 fed_energy(topology, source_energy),
             );
             let input = level * constants::FILTER_INPUT_GAIN;
-            let moved = moved(gains, input_drives, feedback_drives, core, s, input, energy);
+            let guess = response::guessed_bin(input, earlier.band_state, earlier.low_state);
+            let at = response::operating_position_near(input, s.band_state, s.low_state, guess);
+            let moved = moved(
+                gains,
+                input_drives,
+                feedback_drives,
+                core,
+                s,
+                input,
+                at,
+                energy,
+            );
             taken(core, mode_output_gain, count, mode, moved)
         }
     }
 }
 
-// One sample of the filter on the topology and the controls that are handed in.
+// One sample of the filter on the topology and the controls that are handed in, with the slot of the summer's curve.
 pub fn sample(
     bundle: &[u8],
     curves: &[u8],
+    slot: u8,
     topology: MixingTopology,
     controls: ControlCache,
     mode: u8,
@@ -359,7 +385,7 @@ pub fn sample(
     input_sum: f32,
     source_energy: f32,
 ) -> Sampled
-    ensures { λ r. ⌜ r ≡ S.sampleOf (now (bundle .entry)) (now (curves .entry)) topology controls mode state «input_sum» «source_energy» ⌝ }
+    ensures { λ r. ⌜ r ≡ S.sampleOf (now (bundle .entry)) (now (curves .entry)) slot topology controls mode state «input_sum» «source_energy» ⌝ }
 {
     let f = controls.filter;
     let gains = f.integrator_gain;
@@ -367,6 +393,7 @@ pub fn sample(
     let feedback_drives = f.feedback_drive;
     sample_kept(
         curves,
+        slot,
         topology,
         &gains,
         &input_drives,
@@ -375,6 +402,7 @@ pub fn sample(
         controls.mode_output_gain,
         rest_of(bundle, topology),
         mode,
+        state,
         state,
         input_sum,
         source_energy,

@@ -15,28 +15,28 @@ use Rattle.curves.specs.Sampling.{sampleCurveOf, sampleCurvePlacesOf}
 
 -- ---- `mixer_transfer`
 
--- curves.mixer[input_count]. A count above 7, at which the Rust panics, counts as 7.
-abbrev pub mixerCurveOf : ℕ → ℕ
-mixerCurveOf count = 7 + min count 7
+-- curves.mixer[input_count], by its slot in a buffer of all 31 curves. A count above 7, at which the Rust panics, counts as 7.
+abbrev pub mixerSlotOf : ℕ → ℕ
+mixerSlotOf count = 7 + min count 7
 
 -- the quiescent level where there is no input, else input_sum * mixer_input_reciprocal
 abbrev pub mixerAverageOf : MixingTopology → Float → Float
 mixerAverageOf t sum = cond (eqb (t .«mixer_input_count») 0) quiescentLevelOf (sum ⊗ t .«mixer_input_reciprocal»)
 
-unfoldable pub mixerOf : List ℕ → MixingTopology → Float → Float
-mixerOf curves t sum = sampleCurveOf curves (mixerCurveOf (t .«mixer_input_count»)) (mixerAverageOf t sum)
+unfoldable pub mixerOf : List ℕ → ℕ → MixingTopology → Float → Float
+mixerOf curves slot t sum = sampleCurveOf curves slot (mixerAverageOf t sum)
 
-unfoldable pub judgeMixerOf : List ℕ → MixingTopology → Float → Answer
-judgeMixerOf curves t sum = judgePlacesOf Curves curves (sampleCurvePlacesOf (mixerCurveOf (t .«mixer_input_count»)) (mixerAverageOf t sum))
+unfoldable pub judgeMixerOf : List ℕ → ℕ → MixingTopology → Float → Answer
+judgeMixerOf curves slot t sum = judgePlacesOf Curves curves (sampleCurvePlacesOf slot (mixerAverageOf t sum))
 
 -- ---- `volume_transfer`
 
--- curves.volume[volume]. A volume above 15, which no register has, counts as 15.
-abbrev pub volumeCurveOf : ℕ → ℕ
-volumeCurveOf volume = 15 + min volume 15
+-- curves.volume[volume], by its slot in a buffer of all 31 curves. A volume above 15, which no register has, counts as 15.
+abbrev pub volumeSlotOf : ℕ → ℕ
+volumeSlotOf volume = 15 + min volume 15
 
 unfoldable pub volumeOf : List ℕ → ℕ → Float → Float
-volumeOf curves volume value = sampleCurveOf curves (volumeCurveOf volume) value
+volumeOf curves slot value = sampleCurveOf curves slot value
 
 unfoldable pub judgeVolumeOf : List ℕ → ℕ → Float → Answer
-judgeVolumeOf curves volume value = judgePlacesOf Curves curves (sampleCurvePlacesOf (volumeCurveOf volume) value)
+judgeVolumeOf curves slot value = judgePlacesOf Curves curves (sampleCurvePlacesOf slot value)

@@ -1,4 +1,4 @@
-// The mixer and the volume DAC: each is a curve of its own load, read at what it is fed.
+// The mixer and the volume DAC: each is a curve of its own load, read at what it is fed. Its slot in the buffer comes from the caller.
 // A transfer is total, and the judging function beside it refuses the entries that it reads.
 ghost use mathlib.Core.Path.{_≡_};
 ghost use Rattle.transfers.specs.Transfers as T;
@@ -7,9 +7,9 @@ use mixing::MixingTopology;
 
 // ---- mixer_transfer
 
-// The mixer's curve for a count of inputs; it has none for more than seven.
-fn mixer_curve(count: usize) -> u8
-    ensures { λ r. ⌜ r ≡ T.mixerCurveOf count ⌝ }
+// Where the mixer's curve for a count of inputs stands in a buffer of all 31 curves; there is none for more than seven.
+pub fn mixer_slot(count: usize) -> u8
+    ensures { λ r. ⌜ r ≡ T.mixerSlotOf count ⌝ }
 {
     if count < 7 { 7 + (count as u8) } else { 14 }
 }
@@ -25,40 +25,38 @@ fn mixer_average(topology: MixingTopology, sum: f32) -> f32
 }
 
 // The mixer's output for the sum of its inputs.
-pub fn mixer_transfer(curves: &[u8], topology: MixingTopology, input_sum: f32) -> f32
-    ensures { λ r. ⌜ r ≡ T.mixerOf (now (curves .entry)) topology «input_sum» ⌝ }
+pub fn mixer_transfer(curves: &[u8], slot: u8, topology: MixingTopology, input_sum: f32) -> f32
+    ensures { λ r. ⌜ r ≡ T.mixerOf (now (curves .entry)) slot topology «input_sum» ⌝ }
 {
-    let curve = mixer_curve(topology.mixer_input_count);
-    curves::sample_curve(curves, curve, mixer_average(topology, input_sum))
+    curves::sample_curve(curves, slot, mixer_average(topology, input_sum))
 }
 
 // The entries that it reads.
-pub fn judge_mixer(curves: &[u8], topology: MixingTopology, input_sum: f32) -> Answer
-    ensures { λ r. ⌜ r ≡ T.judgeMixerOf (now (curves .entry)) topology «input_sum» ⌝ }
+pub fn judge_mixer(curves: &[u8], slot: u8, topology: MixingTopology, input_sum: f32) -> Answer
+    ensures { λ r. ⌜ r ≡ T.judgeMixerOf (now (curves .entry)) slot topology «input_sum» ⌝ }
 {
-    let curve = mixer_curve(topology.mixer_input_count);
-    curves::judge_sample_curve(curves, curve, mixer_average(topology, input_sum))
+    curves::judge_sample_curve(curves, slot, mixer_average(topology, input_sum))
 }
 
 // ---- volume_transfer
 
-// The curve of a volume; there is none above fifteen.
-fn volume_curve(volume: u8) -> u8
-    ensures { λ r. ⌜ r ≡ T.volumeCurveOf volume ⌝ }
+// Where the curve of a volume stands in a buffer of all 31 curves; there is none above fifteen.
+pub fn volume_slot(volume: u8) -> u8
+    ensures { λ r. ⌜ r ≡ T.volumeSlotOf volume ⌝ }
 {
     if volume < 15 { 15 + volume } else { 30 }
 }
 
 // The volume DAC's output for the mixer's.
-pub fn volume_transfer(curves: &[u8], volume: u8, value: f32) -> f32
-    ensures { λ r. ⌜ r ≡ T.volumeOf (now (curves .entry)) volume value ⌝ }
+pub fn volume_transfer(curves: &[u8], slot: u8, value: f32) -> f32
+    ensures { λ r. ⌜ r ≡ T.volumeOf (now (curves .entry)) slot value ⌝ }
 {
-    curves::sample_curve(curves, volume_curve(volume), value)
+    curves::sample_curve(curves, slot, value)
 }
 
 // The entries that it reads.
-pub fn judge_volume(curves: &[u8], volume: u8, value: f32) -> Answer
-    ensures { λ r. ⌜ r ≡ T.judgeVolumeOf (now (curves .entry)) volume value ⌝ }
+pub fn judge_volume(curves: &[u8], slot: u8, value: f32) -> Answer
+    ensures { λ r. ⌜ r ≡ T.judgeVolumeOf (now (curves .entry)) slot value ⌝ }
 {
-    curves::judge_sample_curve(curves, volume_curve(volume), value)
+    curves::judge_sample_curve(curves, slot, value)
 }

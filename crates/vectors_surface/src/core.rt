@@ -74,10 +74,12 @@ pub(crate) fn sample(r: &[u8], bundle: &[u8], curves: &[u8]) -> bool {
 fn sampled(r: &[u8], bundle: &[u8], curves: &[u8], s: State) -> Sampled {
     let registers = s.registers;
     let integrator = s.integrator;
+    let topology = MixingTopology::update(registers.routing, registers.mode);
     sample::sample(
         bundle,
         curves,
-        MixingTopology::update(registers.routing, registers.mode),
+        sample::summer_slot(topology),
+        topology,
         controls::controls_of(bundle, s),
         registers.mode,
         integrator,

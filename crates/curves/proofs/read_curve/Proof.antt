@@ -1,4 +1,7 @@
-use Rattle.curves.specs.Sampling.{sampleCurveOf, sampleCurvePlacesOf}
+use Prim.Native.Nat.{_≤_}
+use native.Mathlib.Omega.{arith}
+use Rattle.curves.specs.Sampling.{inputPositionOf, sampleCurveOf, sampleCurvePlacesOf}
+use Rattle.curves.proofs.Laws.{input-lower, next-place}
 use borrow.Author.Needs.{needs}
 use Rattle.curves.proofs.read_curve.Statement.{statement}
 use Rattle.curves.proofs.read_curve.Tie as tie
@@ -6,29 +9,31 @@ use Rattle.curves.proofs.read_curve.Tie as tie
 input-position-requires : tie.Need-input-position-requires
 input-position-requires c κs = search needs
 
-sample-curve-places-requires : tie.Need-sample-curve-places-requires
-sample-curve-places-requires c κs = search needs
+curve-place-requires : tie.Need-curve-place-requires
+curve-place-requires c κs = rw (c .input-position .ensures) (omega (arith, input-lower (c .before .before .args .input)))
 
-array-read-read-between : tie.Need-array-read-read-between
-array-read-read-between c = search needs
-
-array-read-read-between-2 : tie.Need-array-read-read-between-2
-array-read-read-between-2 c = search needs
+add-read-between : tie.Need-add-read-between
+add-read-between c =
+    let z = c .before in
+    let lower : z .input-position .result .lower ≤ 2047 = rw (z .input-position .ensures) (input-lower (z .before .before .args .input)) in
+    omega (arith, c .curve-place .ensures)
 
 read-between-requires : tie.Need-read-between-requires
 read-between-requires c κs = search needs
 
 returns : tie.Need-returns
 unfolding sampleCurveOf sampleCurvePlacesOf
-returns c = simp (c .read-between .ensures, c .before .sample-curve-places .ensures, c .before .before .input-position .ensures)
+returns c =
+    let z = c .before .before in
+    let a = z .before .before .args in
+    simp (c .read-between .ensures, c .before .curve-place .ensures, z .input-position .ensures, next-place (a .curve) (inputPositionOf (a .input) .lower))
 
 pub read-curve-spec : {M : Type 1} → statement M
 read-curve-spec =
     tie.close
     (tie.spec
     input-position-requires
-    sample-curve-places-requires
-    array-read-read-between
-    array-read-read-between-2
+    curve-place-requires
+    add-read-between
     read-between-requires
     returns)

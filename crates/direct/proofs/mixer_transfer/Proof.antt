@@ -3,6 +3,9 @@ use borrow.Author.Needs.{needs}
 use Rattle.direct.proofs.mixer_transfer.Statement.{statement}
 use Rattle.direct.proofs.mixer_transfer.Tie as tie
 
+mixer-slot-requires : tie.Need-mixer-slot-requires
+mixer-slot-requires c κs = search needs
+
 mixer-transfer-requires : tie.Need-mixer-transfer-requires
 mixer-transfer-requires c κs = search needs
 
@@ -41,12 +44,13 @@ unfolding mixerCallOf mixerAnswerOf
 returns c =
     let y = c .before .before .before .before in
     let z = y .before .before .before .before in
-    simp (c .finished .ensures, c .before .first3 .ensures, c .before .before .curves-length .ensures, c .before .before .before .first2 .ensures, y .first .ensures, y .before .judge-mixer .ensures, y .before .before .unless2 .ensures, z .unless .ensures, z .before .is-finite2 .ensures, z .before .before .is-finite .ensures, z .before .before .before .mixer-transfer .ensures)
+    simp (c .finished .ensures, c .before .first3 .ensures, c .before .before .curves-length .ensures, c .before .before .before .first2 .ensures, y .first .ensures, y .before .judge-mixer .ensures, y .before .before .unless2 .ensures, z .unless .ensures, z .before .is-finite2 .ensures, z .before .before .is-finite .ensures, z .before .before .before .mixer-transfer .ensures, z .before .before .before .before .mixer-slot .ensures)
 
 pub mixer-transfer-spec : {M : Type 1} → statement M
 mixer-transfer-spec =
     tie.close
     (tie.spec
+    mixer-slot-requires
     mixer-transfer-requires
     is-finite-requires
     is-finite-requires-2

@@ -3,6 +3,9 @@ use borrow.Author.Needs.{needs}
 use Rattle.direct.proofs.summer_transfer.Statement.{statement}
 use Rattle.direct.proofs.summer_transfer.Tie as tie
 
+summer-slot-requires : tie.Need-summer-slot-requires
+summer-slot-requires c κs = search needs
+
 summer-transfer-requires : tie.Need-summer-transfer-requires
 summer-transfer-requires c κs = search needs
 
@@ -48,12 +51,13 @@ returns c =
     let y = c .before .before .before .before in
     let z = y .before .before .before .before in
     let w = z .before .before .before .before in
-    simp (c .finished .ensures, c .before .first4 .ensures, c .before .before .check .ensures, c .before .before .before .first3 .ensures, y .curves-length .ensures, y .before .first2 .ensures, y .before .before .first .ensures, y .before .before .before .judge-summer .ensures, z .unless2 .ensures, z .before .is-finite2 .ensures, z .before .before .unless .ensures, z .before .before .before .is-finite .ensures, w .before .summer-transfer .ensures)
+    simp (c .finished .ensures, c .before .first4 .ensures, c .before .before .check .ensures, c .before .before .before .first3 .ensures, y .curves-length .ensures, y .before .first2 .ensures, y .before .before .first .ensures, y .before .before .before .judge-summer .ensures, z .unless2 .ensures, z .before .is-finite2 .ensures, z .before .before .unless .ensures, z .before .before .before .is-finite .ensures, w .before .summer-transfer .ensures, w .before .before .summer-slot .ensures)
 
 pub summer-transfer-spec : {M : Type 1} → statement M
 summer-transfer-spec =
     tie.close
     (tie.spec
+    summer-slot-requires
     summer-transfer-requires
     is-finite-requires
     unless-requires

@@ -3,6 +3,9 @@ use borrow.Author.Needs.{needs}
 use Rattle.direct.proofs.volume_transfer.Statement.{statement}
 use Rattle.direct.proofs.volume_transfer.Tie as tie
 
+volume-slot-requires : tie.Need-volume-slot-requires
+volume-slot-requires c κs = search needs
+
 volume-transfer-requires : tie.Need-volume-transfer-requires
 volume-transfer-requires c κs = search needs
 
@@ -31,12 +34,13 @@ returns : tie.Need-returns
 unfolding volumeCallOf volumeAnswerOf
 returns c =
     let y = c .before .before .before .before in
-    simp (c .finished .ensures, c .before .first2 .ensures, c .before .before .curves-length .ensures, c .before .before .before .first .ensures, y .judge-volume .ensures, y .before .unless .ensures, y .before .before .is-finite .ensures, y .before .before .before .volume-transfer .ensures)
+    simp (c .finished .ensures, c .before .first2 .ensures, c .before .before .curves-length .ensures, c .before .before .before .first .ensures, y .judge-volume .ensures, y .before .unless .ensures, y .before .before .is-finite .ensures, y .before .before .before .volume-transfer .ensures, y .before .before .before .before .volume-slot .ensures)
 
 pub volume-transfer-spec : {M : Type 1} → statement M
 volume-transfer-spec =
     tie.close
     (tie.spec
+    volume-slot-requires
     volume-transfer-requires
     is-finite-requires
     unless-requires

@@ -16,7 +16,7 @@ sample-kept-requires c κs = search needs
 returns : tie.Need-returns
 returns c =
     let a = c .before .before .before .before .before .before .before .before .before .before .before .before .args in
-    simp (c .sample-kept .ensures, c .before .rest-of .ensures, c .before .before .core-controls .ensures) (kept-is-sample (now (a .bundle)) (now (a .curves)) (a .topology) (a .controls) (a .mode) (a .state) (a .input-sum) (a .source-energy))
+    simp (c .sample-kept .ensures, c .before .rest-of .ensures, c .before .before .core-controls .ensures) (kept-is-sample (now (a .bundle)) (now (a .curves)) (a .slot) (a .topology) (a .controls) (a .mode) (a .state) (a .input-sum) (a .source-energy))
 
 pub sample-spec : {M : Type 1} → statement M
 sample-spec =

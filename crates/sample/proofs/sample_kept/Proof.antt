@@ -29,6 +29,12 @@ fed-energy-requires c κs = search needs
 tracked-energy-requires : tie.Need-tracked-energy-requires
 tracked-energy-requires c κs = search needs
 
+guessed-bin-requires : tie.Need-guessed-bin-requires
+guessed-bin-requires c κs = search needs
+
+operating-position-near-requires : tie.Need-operating-position-near-requires
+operating-position-near-requires c κs = search needs
+
 moved-requires : tie.Need-moved-requires
 moved-requires c κs = search needs
 
@@ -49,10 +55,11 @@ returns-2 c = rw (← c .before .before .before .feed .ensures, c .before .fed .
 returns-3 : tie.Need-returns-3
 unfolding steppedOf
 returns-3 c =
-    let e = c .before .before .before in
+    let t = c .before .before .before .before in
+    let e = t .before in
     let f = e .before .before .before .before in
     let a = f .before .before .args in
-    simp (← f .feed .ensures, e .before .before .fed2 .given .1, c .taken2 .ensures, c .before .moved .ensures, c .before .before .tracked-energy .ensures, e .fed-energy .ensures, taken-parts (now (a .gains)) (now (a .input-drives)) (now (a .feedback-drives)) (a .core) (a .mode-output-gain))
+    simp (← f .feed .ensures, e .before .before .fed2 .given .1, c .taken2 .ensures, c .before .moved .ensures, t .tracked-energy .ensures, e .fed-energy .ensures, taken-parts (now (a .gains)) (now (a .input-drives)) (now (a .feedback-drives)) (a .core) (a .mode-output-gain))
 
 pub sample-kept-spec : {M : Type 1} → statement M
 sample-kept-spec =
@@ -66,6 +73,8 @@ sample-kept-spec =
     enum-known-fed-2
     fed-energy-requires
     tracked-energy-requires
+    guessed-bin-requires
+    operating-position-near-requires
     moved-requires
     taken-requires-2
     returns

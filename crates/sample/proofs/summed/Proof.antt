@@ -3,9 +3,6 @@ use borrow.Author.Needs.{needs}
 use Rattle.sample.proofs.summed.Statement.{statement}
 use Rattle.sample.proofs.summed.Tie as tie
 
-summer-inputs-requires : tie.Need-summer-inputs-requires
-summer-inputs-requires c κs = search needs
-
 average-requires : tie.Need-average-requires
 average-requires c κs = search needs
 
@@ -28,28 +25,27 @@ returns : tie.Need-returns
 unfolding aboveOf
 returns c =
     let r = c .before .before .before in
-    let e = simp (r .before .average .ensures, r .before .before .summer-inputs .ensures) at (r .read-curve .ensures) in
+    let e = simp (r .before .average .ensures) at (r .read-curve .ensures) in
     rw (← e, c .before .curve .given .1)
 
 returns-2 : tie.Need-returns-2
 unfolding aboveOf
 returns-2 c =
     let r = c .before .before .before .before .before .before in
-    let e = simp (r .before .average .ensures, r .before .before .summer-inputs .ensures) at (r .read-curve .ensures) in
+    let e = simp (r .before .average .ensures) at (r .read-curve .ensures) in
     rw (← e, c .before .before .before .before .curve2 .given .1, c .before .rest .given .1)
 
 returns-3 : tie.Need-returns-3
 unfolding aboveOf
 returns-3 c =
     let r = c .before .before .before .before .before .before in
-    let e = simp (r .before .average .ensures, r .before .before .summer-inputs .ensures) at (r .read-curve .ensures) in
+    let e = simp (r .before .average .ensures) at (r .read-curve .ensures) in
     rw (← e, c .before .before .before .before .curve2 .given .1, c .before .rest2 .given .1)
 
 pub summed-spec : {M : Type 1} → statement M
 summed-spec =
     tie.close
     (tie.spec
-    summer-inputs-requires
     average-requires
     read-curve-requires
     enum-known-curve

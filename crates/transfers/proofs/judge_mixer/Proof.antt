@@ -3,9 +3,6 @@ use borrow.Author.Needs.{needs}
 use Rattle.transfers.proofs.judge_mixer.Statement.{statement}
 use Rattle.transfers.proofs.judge_mixer.Tie as tie
 
-mixer-curve-requires : tie.Need-mixer-curve-requires
-mixer-curve-requires c κs = search needs
-
 mixer-average-requires : tie.Need-mixer-average-requires
 mixer-average-requires c κs = search needs
 
@@ -14,13 +11,12 @@ judge-sample-curve-requires c κs = search needs
 
 returns : tie.Need-returns
 unfolding judgeMixerOf
-returns c = simp (c .judge-sample-curve .ensures, c .before .mixer-average .ensures, c .before .before .mixer-curve .ensures)
+returns c = simp (c .judge-sample-curve .ensures, c .before .mixer-average .ensures)
 
 pub judge-mixer-spec : {M : Type 1} → statement M
 judge-mixer-spec =
     tie.close
     (tie.spec
-    mixer-curve-requires
     mixer-average-requires
     judge-sample-curve-requires
     returns)

@@ -3,15 +3,12 @@ use borrow.Author.Needs.{needs}
 use Rattle.transfers.proofs.judge_volume.Statement.{statement}
 use Rattle.transfers.proofs.judge_volume.Tie as tie
 
-volume-curve-requires : tie.Need-volume-curve-requires
-volume-curve-requires c κs = search needs
-
 judge-sample-curve-requires : tie.Need-judge-sample-curve-requires
 judge-sample-curve-requires c κs = search needs
 
 returns : tie.Need-returns
 unfolding judgeVolumeOf
-returns c = simp (c .judge-sample-curve .ensures, c .before .volume-curve .ensures)
+returns c = simp (c .judge-sample-curve .ensures)
 
 pub judge-volume-spec : {M : Type 1} → statement M
-judge-volume-spec = tie.close (tie.spec volume-curve-requires judge-sample-curve-requires returns)
+judge-volume-spec = tie.close (tie.spec judge-sample-curve-requires returns)

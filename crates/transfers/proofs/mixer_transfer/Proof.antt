@@ -3,9 +3,6 @@ use borrow.Author.Needs.{needs}
 use Rattle.transfers.proofs.mixer_transfer.Statement.{statement}
 use Rattle.transfers.proofs.mixer_transfer.Tie as tie
 
-mixer-curve-requires : tie.Need-mixer-curve-requires
-mixer-curve-requires c κs = search needs
-
 mixer-average-requires : tie.Need-mixer-average-requires
 mixer-average-requires c κs = search needs
 
@@ -14,8 +11,8 @@ sample-curve-requires c κs = search needs
 
 returns : tie.Need-returns
 unfolding mixerOf
-returns c = simp (c .sample-curve .ensures, c .before .mixer-average .ensures, c .before .before .mixer-curve .ensures)
+returns c = simp (c .sample-curve .ensures, c .before .mixer-average .ensures)
 
 pub mixer-transfer-spec : {M : Type 1} → statement M
 mixer-transfer-spec =
-    tie.close (tie.spec mixer-curve-requires mixer-average-requires sample-curve-requires returns)
+    tie.close (tie.spec mixer-average-requires sample-curve-requires returns)

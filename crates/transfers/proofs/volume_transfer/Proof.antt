@@ -3,15 +3,12 @@ use borrow.Author.Needs.{needs}
 use Rattle.transfers.proofs.volume_transfer.Statement.{statement}
 use Rattle.transfers.proofs.volume_transfer.Tie as tie
 
-volume-curve-requires : tie.Need-volume-curve-requires
-volume-curve-requires c κs = search needs
-
 sample-curve-requires : tie.Need-sample-curve-requires
 sample-curve-requires c κs = search needs
 
 returns : tie.Need-returns
 unfolding volumeOf
-returns c = simp (c .sample-curve .ensures, c .before .volume-curve .ensures)
+returns c = simp (c .sample-curve .ensures)
 
 pub volume-transfer-spec : {M : Type 1} → statement M
-volume-transfer-spec = tie.close (tie.spec volume-curve-requires sample-curve-requires returns)
+volume-transfer-spec = tie.close (tie.spec sample-curve-requires returns)

@@ -9,6 +9,9 @@ judge-core-requires c κs = search needs
 is-done-requires : tie.Need-is-done-requires
 is-done-requires c κs = search needs
 
+summer-slot-requires : tie.Need-summer-slot-requires
+summer-slot-requires c κs = search needs
+
 sample-requires : tie.Need-sample-requires
 sample-requires c κs = search needs
 
@@ -18,8 +21,8 @@ after-requires c κs = search needs
 returns : tie.Need-returns
 unfolding sampledOf
 returns c =
-    let z = c .before .before .before .before .before .before .before in
-    simp (c .after .ensures, c .before .sample .ensures, ← z .before .before .judge-core .ensures, ← z .before .is-done .ensures, z .if1 .taken)
+    let z = c .before .before .before .before .before .before .before .before in
+    simp (c .after .ensures, c .before .sample .ensures, c .before .before .summer-slot .ensures, ← z .before .before .judge-core .ensures, ← z .before .is-done .ensures, z .if1 .taken)
 
 quiet-requires : tie.Need-quiet-requires
 quiet-requires c κs = search needs
@@ -34,6 +37,7 @@ sample-spec =
     (tie.spec
     judge-core-requires
     is-done-requires
+    summer-slot-requires
     sample-requires
     after-requires
     returns

@@ -9,12 +9,15 @@ update-requires c κs = search needs
 controls-of-requires : tie.Need-controls-of-requires
 controls-of-requires c κs = search needs
 
+summer-slot-requires : tie.Need-summer-slot-requires
+summer-slot-requires c κs = search needs
+
 sample-requires : tie.Need-sample-requires
 sample-requires c κs = search needs
 
 returns : tie.Need-returns
 unfolding sampledOf
-returns c = simp (← c .before .before .before .update .ensures, ← c .before .before .controls-of .ensures) (c .sample .ensures)
+returns c = simp (← c .before .before .before .before .update .ensures, ← c .before .before .before .controls-of .ensures, ← c .before .summer-slot .ensures) (c .sample .ensures)
 
 pub sampled-spec : {M : Type 1} → statement M
-sampled-spec = tie.close (tie.spec update-requires controls-of-requires sample-requires returns)
+sampled-spec = tie.close (tie.spec update-requires controls-of-requires summer-slot-requires sample-requires returns)
