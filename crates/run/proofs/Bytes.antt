@@ -4,7 +4,11 @@ use native.Mathlib.Omega.{arith}
 use mathlib.Core.Path.{_≡_, refl, sym}
 use mathlib.Core.List.{List, [], _∷_, _++_, append-assoc}
 use lib.ListN.{length, length-append}
-use lib.Ieee.{binary32, toBits}
+use mathlib.Core.Bool.{Bool, true, false, not, _&&_, true≢false}
+use lib.Dec.{T}
+use lib.Ieee.{Float, nan, inf, fin, binary32, toBits, isNan}
+use lib.Ieee.Scale.{finite}
+use Rattle.sample.specs.Sample.{outputsFinite}
 use Rattle.wire.specs.Wire.{rowBytes}
 use Rattle.wire.proofs.Laws.{length-bytesOf}
 use Rattle.sample.specs.declared.Outputs.{Outputs}
@@ -25,3 +29,22 @@ pub outputs-append : (os ps : List Outputs) → sampleBytes (os ++ ps) ≡ sampl
 unfolding sampleBytes
 outputs-append [] ps = refl
 outputs-append (o ∷ os) ps = rw (outputs-append os ps) (sym (append-assoc (outputBytes o) (sampleBytes os) (sampleBytes ps)))
+
+-- ---- finite outputs are no NaNs
+
+real : (x : Float) → finite x ≡ true → T (not (isNan x))
+unfolding isNan
+real nan h = absurd (true≢false (sym h))
+real (inf s) h = tt
+real (fin s m e) h = tt
+
+four : (a b c d : Bool) → (a && b && c && d) ≡ true → (a ≡ true) × (b ≡ true) × (c ≡ true) × (d ≡ true)
+four true true true d h = (refl, refl, refl, h)
+four true true false d h = absurd (true≢false (sym h))
+four true false c d h = absurd (true≢false (sym h))
+four false b c d h = absurd (true≢false (sym h))
+
+pub no-nans : (o : Outputs) → outputsFinite o ≡ true → T (not (isNan (o .high))) × T (not (isNan (o .band))) × T (not (isNan (o .low))) × T (not (isNan (o .selected)))
+no-nans o h =
+    let p = four (finite (o .high)) (finite (o .band)) (finite (o .low)) (finite (o .selected)) h in
+    (real (o .high) (p .0), real (o .band) (p .1), real (o .low) (p .2), real (o .selected) (p .3))

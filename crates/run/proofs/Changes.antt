@@ -1,30 +1,28 @@
 -- An event that is no sample: the state that it leads to is valid, and what is judged of it is what the plain machine judges.
-use Prim.Native.Nat.{ℕ, _<_}
+use Prim.Native.Nat.{ℕ}
 use native.Mathlib.Omega.{arith}
-use mathlib.Core.Path.{_≡_, refl, sym, _∙_}
+use mathlib.Core.Path.{_≡_, refl, sym}
 use mathlib.Core.Bool.{Bool, true, false, cond, true≢false}
 use mathlib.Core.List.{List}
 use lib.Ieee.{Float}
 use Rattle.answers.specs.declared.Answer.{Answer}
-use Rattle.answers.specs.declared.Answer.the-variants.{Done}
-use Rattle.answers.specs.Answers.{firstOf, isDoneOf}
-use Rattle.answers.proofs.Laws.{done-is, first-done}
+use Rattle.answers.specs.Answers.{isDoneOf}
+use Rattle.answers.proofs.Laws.{done-is}
 use Rattle.bundle.specs.declared.Read.the-variants.{Value, Refused}
 use Rattle.bundle.specs.Reading.{readOf}
 use Rattle.control.specs.declared.State.{State}
-use Rattle.control.specs.Registers.{effectiveCutoffOf, writeModeAndVolumeOf}
+use Rattle.control.specs.Registers.{effectiveCutoffOf}
 use Rattle.control.specs.Block.{validOf}
-use Rattle.control.proofs.Valid.{Ranges, valid-ranges, low-valid, high-valid, routing-valid, mode-valid, starting-valid}
+use Rattle.control.proofs.Valid.{valid-ranges, low-valid, high-valid, routing-valid, mode-valid, starting-valid}
 use Rattle.controls.specs.Controls.{modeGainOf}
-use Rattle.controls.specs.Judging.{judgeFilterOf, judgeControlsOf}
+use Rattle.controls.specs.Judging.{judgeControlsOf}
 use Rattle.kept.specs.Kept.{judgeGainOf}
 use Rattle.kept.proofs.Parts.{judged-by-parts}
 use Rattle.script.specs.declared.Event.{Event}
 use Rattle.script.specs.declared.Event.the-variants.{CutoffLow, CutoffHigh, Routing, Mode, Sample, Reset}
-use Rattle.filter.specs.Plain.{Plain, plainChange, plainStep}
-use Rattle.run.specs.declared.Changed.{Changed}
+use Rattle.filter.specs.Plain.{plainChange, plainStep}
 use Rattle.run.specs.Rows.{askedOf, nextOf}
-use Rattle.run.specs.Parts.{gainAnswer, stateGain, judgedOf, changedTo}
+use Rattle.run.specs.Parts.{gainAnswer, judgedOf}
 
 -- ---- the answer is that of all controls
 
@@ -51,19 +49,6 @@ next-valid s v (Routing value) = routing-valid s v value
 next-valid s v (Mode value) = mode-valid s v value
 next-valid s v (Sample sum energy) = v
 next-valid s v Reset = starting-valid
-
-pub changes : (bundle : List ℕ) (s : State) → validOf s ≡ true → (e : Event) {t : State} → t ≡ nextOf s e → {r : Changed} → r ≡ changedTo (judgedOf bundle t) t → r ≡ changedTo (judgeControlsOf bundle (nextOf s e)) (nextOf s e)
-changes bundle s v e is h = h ∙ rw (is, judged-is bundle (nextOf s e) (next-valid s v e)) refl
-
--- after a write of the mode the filter's entries are those of the state before
-pub mode-judged : (bundle : List ℕ) (s : State) → validOf s ≡ true → judgeControlsOf bundle s ≡ Done → (v : ℕ) → gainAnswer (stateGain bundle (writeModeAndVolumeOf s v)) ≡ judgeControlsOf bundle (writeModeAndVolumeOf s v)
-mode-judged bundle s valid judged v =
-    let t = writeModeAndVolumeOf s v in
-    let f = judgeFilterOf bundle (effectiveCutoffOf s) (s .registers .resonance) in
-    let r = valid-ranges s valid .resonance in
-    let usable : f ≡ Done = first-done f (judgeGainOf bundle (s .registers) (effectiveCutoffOf s)) (sym (judged-by-parts bundle s (omega arith)) ∙ judged) .0 in
-    let answer : judgedOf bundle t ≡ gainAnswer (stateGain bundle t) = rw usable refl in
-    sym answer ∙ judged-is bundle t (mode-valid s valid v)
 
 -- ---- as the plain machine has it
 

@@ -1,25 +1,23 @@
 -- The events of a script, as the loop takes them: samples in a row, then one event that is none. What it has done, and what is left, is the whole run.
 use Prim.Native.Nat.{ℕ, zero, suc, _+_, _-_, _*_, _≤_, _<_}
 use native.Mathlib.Omega.{arith}
-use native.Mathlib.Nat.{zero-add, add-zero, add-assoc}
-use native.Mathlib.Numerals.{add-one}
+use native.Mathlib.Nat.{zero-add, add-zero}
 use mathlib.Core.Path.{_≡_, refl, sym, ap, _∙_, subst}
 use mathlib.Core.Bool.{Bool, true, false, not, cond, _&&_, true≢false}
-use lib.Dec.{leb, ltb}
+use lib.Dec.{leb}
 use lib.Ieee.Scale.{finite}
-use borrow.Author.Tests.{ltb-false, ltb-true}
-use mathlib.Core.List.{List, [], _∷_, _++_, append-assoc, append-nil}
+use mathlib.Core.List.{List, [], _∷_, _++_}
 use lib.ListN.{length, drop, length-append}
 use Rattle.answers.specs.declared.Answer.{Answer}
 use Rattle.answers.specs.declared.Answer.the-variants.{Done, InputNotFinite, MixerInputs}
 use Rattle.answers.specs.Answers.{firstOf, unlessOf, isDoneOf}
-use Rattle.answers.proofs.Laws.{done-is, first-done}
+use Rattle.answers.proofs.Laws.{first-done}
 use Rattle.wire.specs.Wire.{putAt}
-use Rattle.wire.proofs.Laws.{both, length-putAt, putAt-nil, putAt-join}
+use Rattle.wire.proofs.Laws.{length-putAt, putAt-nil, putAt-join}
 use Rattle.integrator.specs.declared.IntegratorState.{IntegratorState}
 use Rattle.control.specs.declared.State.{State}
 use Rattle.control.specs.Registers.{effectiveCutoffOf, startingState, writeCutoffLowOf, writeCutoffHighOf, writeSignalRoutingOf, writeModeAndVolumeOf}
-use Rattle.control.proofs.Valid.{Ranges, valid-ranges}
+use Rattle.control.proofs.Valid.{valid-ranges}
 use Rattle.controls.specs.declared.ControlCache.{ControlCache}
 use Rattle.controls.specs.Controls.{modeGainOf, filterControlsOf, controlsOf}
 use Rattle.kept.specs.Kept.{judgeGainOf}
@@ -33,7 +31,7 @@ use Rattle.controls.specs.Judging.{judgeFilterOf, judgeControlsOf}
 use Rattle.sample.specs.declared.Outputs.{Outputs}
 use Rattle.sample.specs.declared.Sampled.{Sampled}
 use Rattle.sample.specs.declared.Sampled.the-variants.{Taken, Refused}
-use Rattle.sample.specs.Sample.{sampleOf}
+use Rattle.sample.specs.Sample.{summerSlotOf, sampleOf}
 use Rattle.script.specs.declared.Event.{Event}
 use Rattle.script.specs.declared.Event.the-variants.{CutoffLow, CutoffHigh, Routing, Mode, Sample, Reset}
 use Rattle.script.specs.declared.Decoded.{Decoded}
@@ -42,20 +40,18 @@ use Rattle.script.specs.Script as S
 use Rattle.script.specs.Script.{eventAt, allReadable, eventsIn, samplesOf}
 use Rattle.script.proofs.Laws.{slicesFrom, all-next, events-next, all-stop, events-end}
 use Rattle.script.proofs.Cut.{length-slices, length-events}
-use Rattle.filter.specs.declared.Core.{Core}
-use Rattle.filter.specs.Core.{freshTopologyOf, coreOf, withIntegrator, judgeLentOf, fedOf}
-use Rattle.filter.specs.declared.Fed.{Fed}
-use Rattle.filter.specs.Lists.{shown, Fresh}
+use Rattle.filter.specs.Core.{freshTopologyOf, withIntegrator, judgeLentOf}
 use Rattle.filter.specs.Plain.{Plain, refusedAt, plainChange, plainTaken, plainSample, plainStep}
 use Rattle.filter.proofs.Demand3.{refuses, sample-refuses, sample-plain}
 use Rattle.run.specs.declared.Row.{Row}
 use Rattle.run.specs.declared.Played.{Played}
 use Rattle.run.specs.Run.{Ran, stopped, went, playOf, sampleBytes}
-use Rattle.run.specs.Rows.{Samples, Moves, askedOf, noSamples, oneMore, rowOn, rowOf, movesOf, rowEnd, movesEnd, playEnd}
+use Rattle.run.specs.Rows.{Samples, Moves, askedOf, noSamples, oneMore, rowOn, rowOf, movesOf, rowEnd, playEnd}
 use Rattle.run.proofs.Bytes.{length-outputs, outputs-append}
 use Rattle.run.specs.declared.Asked.{Asked}
 use Rattle.run.specs.declared.Moved.{Moved}
-use Rattle.run.specs.Parts.{gainValue, stateGain, partsOf, cacheOfParts, keptRowOf}
+use Rattle.run.specs.Parts.{gainValue, stateGain, partsOf, cacheOfParts, keptRowOf, movesEnd, restingOf}
+use Rattle.run.specs.declared.Resting.{Resting}
 use Rattle.run.proofs.Moves.{MovesLaw, moves-law, moves-some}
 use Rattle.run.proofs.Cutting.{Good, good-step}
 
@@ -183,19 +179,19 @@ module _ (bundle curves : List ℕ) (lent : judgeLentOf bundle curves ≡ Done) 
   row-law s (Mode v ∷ es) good = quiet-row s good (Mode v ∷ es) (λ e fs p. cc)
   row-law s (Reset ∷ es) good = quiet-row s good (Reset ∷ es) (λ e fs p. cc)
   row-law s (Sample sum energy ∷ es) good =
-      go (sampleOf bundle curves (freshTopologyOf s) (controlsOf bundle s) (s .registers .mode) (s .integrator) sum energy) refl (λ t. row-law t es)
+      go (sampleOf bundle curves (summerSlotOf (freshTopologyOf s)) (freshTopologyOf s) (controlsOf bundle s) (s .registers .mode) (s .integrator) sum energy) refl (λ t. row-law t es)
     where
-      plain : (x : Sampled) → sampleOf bundle curves (freshTopologyOf s) (controlsOf bundle s) (s .registers .mode) (s .integrator) sum energy ≡ x → plainStep bundle curves s (Sample sum energy) ≡ plainTaken s x
+      plain : (x : Sampled) → sampleOf bundle curves (summerSlotOf (freshTopologyOf s)) (freshTopologyOf s) (controlsOf bundle s) (s .registers .mode) (s .integrator) sum energy ≡ x → plainStep bundle curves s (Sample sum energy) ≡ plainTaken s x
       plain x h = sym (sample-plain bundle curves s sum energy lent (good .valid) (good .judged)) ∙ ap (plainTaken s) h
 
-      go : (x : Sampled) → sampleOf bundle curves (freshTopologyOf s) (controlsOf bundle s) (s .registers .mode) (s .integrator) sum energy ≡ x
+      go : (x : Sampled) → sampleOf bundle curves (summerSlotOf (freshTopologyOf s)) (freshTopologyOf s) (controlsOf bundle s) (s .registers .mode) (s .integrator) sum energy ≡ x
           → ((t : State) → Good bundle curves t → RowLaw t es (freshRow t es))
           → RowLaw s (Sample sum energy ∷ es) (rowOn (λ j. rowAt s j es) (s .integrator) x)
       go (Taken o j) h on =
           let p = plain (Taken o j) h in
           let g : Good bundle curves (withIntegrator s j) = subst (λ (x : Plain). Good bundle curves (x .state)) p (good-step bundle curves lent s (Sample sum energy) good) in
           taken-row s good sum energy es o j p (rowAt s j es) (moved s j es (on (withIntegrator s j) g))
-      go (Refused answer) h on = refused-row s good (Sample sum energy) es answer (off _ answer (sample-refuses bundle curves (freshTopologyOf s) (controlsOf bundle s) (s .registers .mode) (s .integrator) sum energy) h) (ap (λ (x : Plain). x .answer) (plain (Refused answer) h))
+      go (Refused answer) h on = refused-row s good (Sample sum energy) es answer (off _ answer (sample-refuses bundle curves (summerSlotOf (freshTopologyOf s)) (freshTopologyOf s) (controlsOf bundle s) (s .registers .mode) (s .integrator) sum energy) h) (ap (λ (x : Plain). x .answer) (plain (Refused answer) h))
 
 -- ---- samples that an event gives
 
@@ -224,7 +220,7 @@ unfolding plainSample
 step-few bundle curves s (Sample sum energy) =
     let topology = freshTopologyOf s in
     let judged = firstOf (unlessOf (finite sum && finite energy) InputNotFinite) (firstOf (unlessOf (leb (topology .«mixer_input_count») 7) MixerInputs) (judgeControlsOf bundle s)) in
-    sample-few s (isDoneOf judged) (sampleOf bundle curves topology (controlsOf bundle s) (s .registers .mode) (s .integrator) sum energy) judged
+    sample-few s (isDoneOf judged) (sampleOf bundle curves (summerSlotOf topology) topology (controlsOf bundle s) (s .registers .mode) (s .integrator) sum energy) judged
 step-few bundle curves s (CutoffLow v) = rw (no-sample bundle curves s (CutoffLow v) refl) (omega arith)
 step-few bundle curves s (CutoffHigh v) = rw (no-sample bundle curves s (CutoffHigh v) refl) (omega arith)
 step-few bundle curves s (Routing v) = rw (no-sample bundle curves s (Routing v) refl) (omega arith)
@@ -249,7 +245,7 @@ played-few bundle curves s (e ∷ es) = go (isDoneOf (plainStep bundle curves s 
 -- ---- samples on the parts that are kept
 
 row-same-samples : (bundle curves : List ℕ) (t : MixingTopology) (c d : ControlCache) (mode : ℕ)
-    → ((j : IntegratorState) (sum energy : Float) → sampleOf bundle curves t c mode j sum energy ≡ sampleOf bundle curves t d mode j sum energy)
+    → ((j : IntegratorState) (sum energy : Float) → sampleOf bundle curves (summerSlotOf t) t c mode j sum energy ≡ sampleOf bundle curves (summerSlotOf t) t d mode j sum energy)
     → (i : IntegratorState) (es : List Event) → rowOf bundle curves t c mode i es ≡ rowOf bundle curves t d mode i es
 unfolding rowOf
 row-same-samples bundle curves t c d mode same i [] = refl
@@ -257,7 +253,7 @@ row-same-samples bundle curves t c d mode same i (e ∷ es) =
     let x = askedOf e .«input_sum» in
     let y = askedOf e .«source_energy» in
     ap (λ (z : Sampled). cond (askedOf e .sample) (rowOn (λ j. rowOf bundle curves t c mode j es) i z) (noSamples Done i)) (same i x y)
-    ∙ ap (λ (z : Samples). cond (askedOf e .sample) z (noSamples Done i)) (on (sampleOf bundle curves t d mode i x y) (λ j. row-same-samples bundle curves t c d mode same j es))
+    ∙ ap (λ (z : Samples). cond (askedOf e .sample) z (noSamples Done i)) (on (sampleOf bundle curves (summerSlotOf t) t d mode i x y) (λ j. row-same-samples bundle curves t c d mode same j es))
   where
     on : (z : Sampled) → ((j : IntegratorState) → rowOf bundle curves t c mode j es ≡ rowOf bundle curves t d mode j es)
         → rowOn (λ j. rowOf bundle curves t c mode j es) i z ≡ rowOn (λ j. rowOf bundle curves t d mode j es) i z
@@ -274,11 +270,11 @@ gain-good bundle curves s good =
     rw judged refl
 
 parts-sample : (bundle curves : List ℕ) (s : State) → Good bundle curves s → (j : IntegratorState) (sum energy : Float)
-    → sampleOf bundle curves (freshTopologyOf s) (cacheOfParts (partsOf bundle s)) (s .registers .mode) j sum energy ≡ sampleOf bundle curves (freshTopologyOf s) (controlsOf bundle s) (s .registers .mode) j sum energy
+    → sampleOf bundle curves (summerSlotOf (freshTopologyOf s)) (freshTopologyOf s) (cacheOfParts (partsOf bundle s)) (s .registers .mode) j sum energy ≡ sampleOf bundle curves (summerSlotOf (freshTopologyOf s)) (freshTopologyOf s) (controlsOf bundle s) (s .registers .mode) j sum energy
 unfolding partsOf controlsOf filterControlsOf
 parts-sample bundle curves s good j sum energy =
-    sym (kept-is-sample bundle curves (freshTopologyOf s) (cacheOfParts (partsOf bundle s)) (s .registers .mode) j sum energy)
-    ∙ rw (gain-good bundle curves s good) (kept-is-sample bundle curves (freshTopologyOf s) (controlsOf bundle s) (s .registers .mode) j sum energy)
+    sym (kept-is-sample bundle curves (summerSlotOf (freshTopologyOf s)) (freshTopologyOf s) (cacheOfParts (partsOf bundle s)) (s .registers .mode) j sum energy)
+    ∙ rw (gain-good bundle curves s good) (kept-is-sample bundle curves (summerSlotOf (freshTopologyOf s)) (freshTopologyOf s) (controlsOf bundle s) (s .registers .mode) j sum energy)
 
 -- ---- the loop
 
@@ -476,7 +472,7 @@ module _ (bundle curves script : List ℕ) (count : ℕ) (s₀ : State) (out₀ 
           go (suc n) z = omega arith
 
     -- a row of other events
-    module _ {m : Moved} (is-m : m ≡ movesEnd i (movesOf bundle s (remaining i))) {d : Bool} (is-d : d ≡ isDoneOf (m .answer)) where
+    module _ {m : Moved} (is-m : m ≡ movesEnd bundle i (movesOf bundle s (remaining i))) {d : Bool} (is-d : d ≡ isDoneOf (m .answer)) where
       m-is : (b : Bool) → d ≡ b → isDoneOf (movesOf bundle s (remaining i) .answer) ≡ b
       m-is b h = ap (λ (x : Moved). isDoneOf (x .answer)) (sym is-m) ∙ sym is-d ∙ h
 
@@ -496,3 +492,47 @@ module _ (bundle curves script : List ℕ) (count : ℕ) (s₀ : State) (out₀ 
 
     pub unreadable : i < count → eventAt script (8 + 12 * i) ≡ Unreadable → ⊥
     unreadable = readable-here lent out s samples i far
+
+  -- ---- one turn: other events in a row, then samples in a row
+
+  module _ (lent : judgeLentOf bundle curves ≡ Done) (out : List ℕ) (s : State) (samples i : ℕ) (far : Sofar out s samples i) {m : Moved} (is-m : m ≡ movesEnd bundle i (movesOf bundle s (remaining i))) where
+    -- where the first row is empty, a sample comes
+    first-empty : (e : Event) → askedOf e .sample ≡ true → remaining i ≡ e ∷ remaining (i + 1) → m .events ≡ i
+    unfolding movesOf
+    first-empty e a next = rw (is-m, next, a) (add-zero i)
+
+    -- the two rows are not both empty
+    pub turn-moves : i < count → {d : Bool} → d ≡ isDoneOf (m .answer) → d ≡ true → (then : Sofar out (m .state) samples (m .events))
+        → {r : Row} → r ≡ rowEnd (m .events) samples (keptRowOf bundle curves (m .state) (remaining (m .events))) → {after : List ℕ} → after ≡ putAt out (16 * samples) (sampleBytes (keptRowOf bundle curves (m .state) (remaining (m .events)) .outputs))
+        → {f : Bool} → f ≡ isDoneOf (r .answer) → f ≡ true → i < r .events
+    turn-moves more is-d d then {r} is-r is-after is-f f = go (eventAt script (8 + 12 * i)) refl
+      where
+        onto : m .events ≤ r .events
+        onto = rw is-r (omega arith)
+
+        sampled : (e : Event) → eventAt script (8 + 12 * i) ≡ Readable e → (b : Bool) → askedOf e .sample ≡ b → i < r .events
+        sampled e at true a =
+            let here : m .events ≡ i = first-empty e a (events-next script count i more e at) in
+            let moves = row-moves lent out (m .state) samples (m .events) then is-r is-after is-f (rw here more) e (rw here at) refl a f in
+            omega arith
+        sampled e at false a = let moves = moves-move lent out s samples i far is-m is-d more e at refl a d in omega (arith, onto)
+
+        go : (x : Decoded) → eventAt script (8 + 12 * i) ≡ x → i < r .events
+        go (Readable e) at = sampled e at (askedOf e .sample) refl
+        go Unreadable at = absurd (unreadable lent out s samples i far more at)
+
+  -- ---- what the loop keeps beside: the mode's gain, and the summer's rest at the count that it was worked out for
+
+  pub record Turn (out : List ℕ) (resting : Resting) (s : State) (gain : Float) (samples i : ℕ) : Type 0 where
+    pub far : Sofar out s samples i
+    pub gained : gain ≡ gainValue (stateGain bundle s)
+    pub rested : resting ≡ restingOf bundle (resting .inputs)
+
+pub rest-told : (bundle : List ℕ) {n : ℕ} {r : Resting} → r ≡ restingOf bundle n → r ≡ restingOf bundle (r .inputs)
+rest-told bundle {n} {r} h = h ∙ ap (restingOf bundle) (sym (ap (λ (x : Resting). x .inputs) h))
+
+pub rest-here : (bundle : List ℕ) (s : State) {t : MixingTopology} {r : Resting} → r ≡ restingOf bundle (t .«filter_input_count») → t ≡ freshTopologyOf s → r .rest ≡ restOf bundle (freshTopologyOf s)
+rest-here bundle s h is = rw (h, is) refl
+
+pub moves-gain : (bundle : List ℕ) (i : ℕ) (w : Moves) {m : Moved} → m ≡ movesEnd bundle i w → m .gain ≡ gainValue (stateGain bundle (m .state))
+moves-gain bundle i w h = rw h refl

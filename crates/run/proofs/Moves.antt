@@ -2,10 +2,11 @@
 use Prim.Native.Nat.{ℕ, zero, suc, _+_, _*_, _≤_, _<_}
 use native.Mathlib.Omega.{arith}
 use native.Mathlib.Nat.{zero-add, add-zero}
-use mathlib.Core.Path.{_≡_, refl, sym, ap, _∙_, subst}
+use mathlib.Core.Path.{_≡_, refl, sym, ap, _∙_}
 use mathlib.Core.Bool.{Bool, true, false, cond, true≢false}
 use mathlib.Core.List.{List, [], _∷_}
 use lib.ListN.{length, drop}
+use lib.Ieee.{Float}
 use Rattle.answers.specs.declared.Answer.{Answer}
 use Rattle.answers.specs.declared.Answer.the-variants.{Done}
 use Rattle.answers.specs.Answers.{isDoneOf}
@@ -20,15 +21,15 @@ use Rattle.script.specs.Script as S
 use Rattle.script.specs.Script.{eventAt, allReadable, eventsIn, samplesOf}
 use Rattle.script.proofs.Laws.{slicesFrom, all-next, events-next, all-stop, events-end}
 use Rattle.filter.specs.Core.{judgeLentOf}
-use Rattle.filter.specs.Plain.{Plain, plainChange, plainStep}
+use Rattle.filter.specs.Plain.{plainChange, plainStep}
 use Rattle.run.specs.declared.Asked.{Asked}
-use Rattle.run.specs.declared.Changed.{Changed}
+use Rattle.run.specs.declared.Judged.{Judged}
 use Rattle.run.specs.declared.Moved.{Moved}
-use Rattle.run.specs.Run.{Ran, stopped, went, playOf}
-use Rattle.run.specs.Rows.{Moves, askedOf, nextOf, noMoves, oneMove, movesOf, movesEnd}
-use Rattle.run.specs.Parts.{changedTo}
-use Rattle.run.proofs.Changes.{next-valid, plain-is}
-use Rattle.run.proofs.Cutting.{Good, good-step}
+use Rattle.run.specs.Run.{Ran, went, playOf}
+use Rattle.run.specs.Rows.{Moves, askedOf, nextOf, noMoves, oneMove, movesOf}
+use Rattle.run.specs.Parts.{gainValue, stateGain, judgedWith, movesEnd}
+use Rattle.run.proofs.Changes.{judged-is, next-valid, plain-is}
+use Rattle.run.proofs.Cutting.{Good}
 
 -- ---- the loop
 
@@ -40,22 +41,22 @@ module _ (bundle script : List ℕ) (count start : ℕ) (from : State) where
   moves s i = movesOf bundle s (left i)
 
   -- before event i
-  pub record Sofar (s : State) (i : ℕ) : Type 0 where
+  pub record Sofar (s : State) (g : Float) (i : ℕ) : Type 0 where
     pub within : i ≤ count
     pub readable : allReadable (slicesFrom script count i) ≡ true
     pub valid : validOf s ≡ true
-    pub judged : judgeControlsOf bundle s ≡ Done
-    pub ends : movesEnd i (moves s i) ≡ movesEnd start (moves from start)
+    pub gained : g ≡ gainValue (stateGain bundle s)
+    pub ends : movesEnd bundle i (moves s i) ≡ movesEnd bundle start (moves from start)
 
-  pub sofar-start : start ≤ count → validOf from ≡ true → judgeControlsOf bundle from ≡ Done → allReadable (slicesFrom script count start) ≡ true → Sofar from start
-  sofar-start w v j r = record { within = w; readable = r; valid = v; judged = j; ends = refl }
+  pub sofar-start : start ≤ count → validOf from ≡ true → allReadable (slicesFrom script count start) ≡ true → {g : Float} → g ≡ gainValue (stateGain bundle from) → Sofar from g start
+  sofar-start w v r g = record { within = w; readable = r; valid = v; gained = g; ends = refl }
 
-  module _ (s : State) (i : ℕ) (far : Sofar s i) where
+  module _ (s : State) (g : Float) (i : ℕ) (far : Sofar s g i) where
     abbrev Ends : Answer → Type 0
-    Ends answer = _≡_ {A = Moved} (record { answer = answer; events = i; state = s }) (movesEnd start (moves from start))
+    Ends answer = _≡_ {A = Moved} (record { answer = answer; events = i; state = s; gain = g }) (movesEnd bundle start (moves from start))
 
     stops : (answer : Answer) → moves s i ≡ noMoves answer s → Ends answer
-    stops answer h = sym (ap (movesEnd i) h ∙ rw (add-zero i) refl) ∙ far .ends
+    stops answer h = rw (far .gained) (sym (ap (movesEnd bundle i) h ∙ rw (add-zero i) refl) ∙ far .ends)
 
     pub at-end : count ≤ i → Ends Done
     unfolding movesOf
@@ -76,27 +77,30 @@ module _ (bundle script : List ℕ) (count start : ℕ) (from : State) where
         unfolding movesOf
         sampled a = stops Done (ap (movesOf bundle s) next ∙ rw (asked-is true a) refl)
 
-        module _ (other : ask .sample ≡ false) {c : Changed} (is-c : c ≡ changedTo (judgeControlsOf bundle (nextOf s e)) (nextOf s e)) {d : Bool} (is-d : d ≡ isDoneOf (c .answer)) where
+        module _ (other : ask .sample ≡ false) {t : State} (is-t : t ≡ nextOf s e) {j : Judged} (is-j : j ≡ judgedWith bundle t) {d : Bool} (is-d : d ≡ isDoneOf (j .answer)) where
+          answer-is : j .answer ≡ judgeControlsOf bundle (nextOf s e)
+          answer-is = ap (λ (x : Judged). x .answer) is-j ∙ rw is-t (judged-is bundle (nextOf s e) (next-valid s (far .valid) e))
+
           judged-here : (b : Bool) → d ≡ b → isDoneOf (judgeControlsOf bundle (nextOf s e)) ≡ b
-          judged-here b h = ap (λ (x : Changed). isDoneOf (x .answer)) (sym is-c) ∙ sym is-d ∙ h
+          judged-here b h = ap isDoneOf (sym answer-is) ∙ sym is-d ∙ h
 
-          pub refused : d ≡ false → Ends (c .answer)
+          pub refused : d ≡ false → Ends (j .answer)
           unfolding movesOf
-          refused h = rw is-c (stops (judgeControlsOf bundle (nextOf s e)) (ap (movesOf bundle s) next ∙ rw (asked-is false other, judged-here false h) refl))
+          refused h = rw answer-is (stops (judgeControlsOf bundle (nextOf s e)) (ap (movesOf bundle s) next ∙ rw (asked-is false other, judged-here false h) refl))
 
-          pub moved : d ≡ true → Sofar (c .state) (i + 1)
+          pub moved : d ≡ true → Sofar t (j .gain) (i + 1)
           unfolding movesOf
           moved h =
-              let t = nextOf s e in
-              let whole : moves s i ≡ oneMove (moves t (i + 1)) = ap (movesOf bundle s) next ∙ rw (asked-is false other, judged-here true h) refl in
-              let events : i + 1 + moves t (i + 1) .events ≡ i + suc (moves t (i + 1) .events) = omega arith in
-              rw is-c
+              let n = nextOf s e in
+              let whole : moves s i ≡ oneMove (moves n (i + 1)) = ap (movesOf bundle s) next ∙ rw (asked-is false other, judged-here true h) refl in
+              let events : i + 1 + moves n (i + 1) .events ≡ i + suc (moves n (i + 1) .events) = omega arith in
+              rw (is-j, is-t)
               (record {
                 within = omega arith;
                 readable = sym (all-next script count i more e is) ∙ far .readable;
                 valid = next-valid s (far .valid) e;
-                judged = done-is (judgeControlsOf bundle t) (judged-here true h);
-                ends = rw events (sym (ap (movesEnd i) whole) ∙ far .ends);
+                gained = refl;
+                ends = rw events (sym (ap (movesEnd bundle i) whole) ∙ far .ends);
               })
 
 -- ---- the row is the plain machine's

@@ -1,10 +1,10 @@
 -- Samples in a row, one by one: what the loop has done, and what is left of it, is the whole row.
-use Prim.Native.Nat.{ℕ, zero, suc, _+_, _*_, _≤_, _<_}
+use Prim.Native.Nat.{ℕ, suc, _+_, _*_, _≤_, _<_}
 use native.Mathlib.Omega.{arith}
 use native.Mathlib.Nat.{add-zero}
 use mathlib.Core.Path.{_≡_, refl, sym, ap, _∙_}
 use mathlib.Core.Bool.{Bool, true, false, cond, true≢false}
-use mathlib.Core.List.{List, [], _∷_, _++_}
+use mathlib.Core.List.{List, [], _∷_}
 use lib.ListN.{length}
 use Rattle.answers.specs.declared.Answer.{Answer}
 use Rattle.answers.specs.declared.Answer.the-variants.{Done}
@@ -16,7 +16,7 @@ use Rattle.controls.specs.declared.ControlCache.{ControlCache}
 use Rattle.sample.specs.declared.Outputs.{Outputs}
 use Rattle.sample.specs.declared.Sampled.{Sampled}
 use Rattle.sample.specs.declared.Sampled.the-variants.{Taken, Refused}
-use Rattle.sample.specs.Sample.{sampleOf}
+use Rattle.sample.specs.Sample.{summerSlotOf, sampleOf}
 use Rattle.sample.specs.Kept.{cacheOf, restOf, sampleKeptOf}
 use Rattle.sample.proofs.Kept.{kept-is-sample}
 use Rattle.kept.specs.Kept.{inputDrives, feedbackDrives}
@@ -43,9 +43,10 @@ unfolding partsOf
 rest-is bundle s is = rw is refl
 
 pub kept-sample :
-    (bundle curves : List ℕ) (s : State) {k : Parts} → k ≡ partsOf bundle s → (mode : ℕ) {drives feedback : List Float} → drives ≡ inputDrives → feedback ≡ feedbackDrives → (i : IntegratorState) (sum energy : Float)
-    → sampleKeptOf curves (k .topology) (cacheOf (k .gains) drives feedback (k .core) (k .«mode_output_gain»)) (k .rest) mode i sum energy ≡ sampleOf bundle curves (k .topology) (cacheOfParts k) mode i sum energy
-kept-sample bundle curves s {k} is mode hi hf i sum energy = rw (hi, hf, rest-is bundle s is) (kept-is-sample bundle curves (k .topology) (cacheOfParts k) mode i sum energy)
+    (bundle curves : List ℕ) (s : State) {k : Parts} → k ≡ partsOf bundle s → (mode : ℕ) {drives feedback : List Float} → drives ≡ inputDrives → feedback ≡ feedbackDrives → {slot : ℕ} → slot ≡ summerSlotOf (k .topology)
+    → (i : IntegratorState) (sum energy : Float)
+    → sampleKeptOf curves slot (k .topology) (cacheOf (k .gains) drives feedback (k .core) (k .«mode_output_gain»)) (k .rest) mode i sum energy ≡ sampleOf bundle curves (summerSlotOf (k .topology)) (k .topology) (cacheOfParts k) mode i sum energy
+kept-sample bundle curves s {k} is mode hi hf hs i sum energy = rw (hi, hf, hs, rest-is bundle s is) (kept-is-sample bundle curves (summerSlotOf (k .topology)) (k .topology) (cacheOfParts k) mode i sum energy)
 
 -- ---- the samples among events
 
@@ -64,7 +65,7 @@ module _ (bundle curves : List ℕ) (t : MixingTopology) (c : ControlCache) (mod
   -- one sample at the front
   module _ (i : IntegratorState) (e : Event) (es : List Event) where
     abbrev sampled : Sampled
-    sampled = sampleOf bundle curves t c mode i (askedOf e .«input_sum») (askedOf e .«source_energy»)
+    sampled = sampleOf bundle curves (summerSlotOf t) t c mode i (askedOf e .«input_sum») (askedOf e .«source_energy»)
 
     row-taken : askedOf e .sample ≡ true → (o : Outputs) (j : IntegratorState) → sampled ≡ Taken o j → row i (e ∷ es) ≡ oneMore o (row j es)
     unfolding rowOf
@@ -130,10 +131,10 @@ module _ (bundle curves : List ℕ) (t : MixingTopology) (c : ControlCache) (mod
         module _ (e : Event) (is : eventAt script (8 + 12 * i) ≡ Readable e) {ask : Asked} (asks : ask ≡ askedOf e) where
           -- as the code has it, by what was asked
           abbrev taken : Sampled
-          taken = sampleOf bundle curves t c mode j (ask .«input_sum») (ask .«source_energy»)
+          taken = sampleOf bundle curves (summerSlotOf t) t c mode j (ask .«input_sum») (ask .«source_energy»)
 
           sample-is : (x : Sampled) → taken ≡ x → sampled j e [] ≡ x
-          sample-is x h = ap (λ (a : Asked). sampleOf bundle curves t c mode j (a .«input_sum») (a .«source_energy»)) (sym asks) ∙ h
+          sample-is x h = ap (λ (a : Asked). sampleOf bundle curves (summerSlotOf t) t c mode j (a .«input_sum») (a .«source_energy»)) (sym asks) ∙ h
 
           asked-is : (b : Bool) → ask .sample ≡ b → askedOf e .sample ≡ b
           asked-is b h = ap (λ (a : Asked). a .sample) (sym asks) ∙ h

@@ -115,7 +115,7 @@ module _ (bundle curves : List ℕ) where
   step-counts s (Sample sum energy) h =
       let t = freshTopologyOf s in
       let judged = firstOf (unlessOf (finite sum && finite energy) InputNotFinite) (firstOf (unlessOf (leb (t .«mixer_input_count») 7) MixerInputs) (judgeControlsOf bundle s)) in
-      go (isDoneOf judged) judged (S.sampleOf bundle curves t (controlsOf bundle s) (s .registers .mode) (s .integrator) sum energy) refl (sample-refuses bundle curves t (controlsOf bundle s) (s .registers .mode) (s .integrator) sum energy) h
+      go (isDoneOf judged) judged (S.sampleOf bundle curves (S.summerSlotOf t) t (controlsOf bundle s) (s .registers .mode) (s .integrator) sum energy) refl (sample-refuses bundle curves (S.summerSlotOf t) t (controlsOf bundle s) (s .registers .mode) (s .integrator) sum energy) h
     where
       go : (d : Bool) (a : Answer) (x : Sampled) → isDoneOf a ≡ d → refuses x ≡ true → cond d (plainTaken s x) (refusedAt s a) .answer ≡ Done → length (cond d (plainTaken s x) (refusedAt s a) .sample) ≡ 1
       go true a x is r h = taken-counts s x r h

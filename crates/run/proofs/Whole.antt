@@ -1,38 +1,39 @@
 -- The run around the loop: what it judges first, the start, and the bytes that it leaves.
-use Prim.Native.Nat.{ℕ, suc, _+_, _*_, _/_, _≤_, _<_}
+use Prim.Native.Nat.{ℕ, suc, _+_, _*_, _/_, _≤_}
 use native.Mathlib.Omega.{arith}
 use native.Mathlib.Nat.{zero-add, sub-zero}
 use mathlib.Core.Path.{_≡_, refl, sym, ap, _∙_}
-use mathlib.Core.Bool.{Bool, true, false, cond, _&&_, true≢false}
+use mathlib.Core.Bool.{Bool, true, false, cond, true≢false}
 use mathlib.Core.List.{List, [], _∷_, _++_}
-use lib.Dec.{eqb, leb}
+use lib.Dec.{leb}
 use lib.ListN.{length, drop}
+use lib.Ieee.{Float}
 use borrow.Author.Tests.{leb-true, leb-false, le-leb, lt-leb, eq-eqb}
 use Rattle.answers.specs.declared.Answer.{Answer}
 use Rattle.answers.specs.declared.Answer.the-variants.{Done, Argument, Script, OutputLength}
 use Rattle.answers.specs.Answers.{firstOf, unlessOf, isDoneOf}
 use Rattle.answers.proofs.Laws.{done-is, first-done, unless-done}
-use Rattle.wire.specs.Wire.{byteAt, u32At, putAt}
-use Rattle.wire.proofs.Laws.{length-putAt, putAt-in, putAt-nil}
+use Rattle.wire.specs.Wire.{u32At, putAt}
+use Rattle.wire.proofs.Laws.{putAt-in, putAt-nil}
 use Rattle.control.specs.declared.State.{State}
 use Rattle.control.specs.declared.Decoded.{Decoded}
 use Rattle.control.specs.declared.Decoded.the-variants.{Valid, Invalid}
-use Rattle.control.specs.Block.{validOf, blockOf, fieldsOf, decodeOf, encodeOf}
-use Rattle.control.proofs.RoundTrip.{Decodes, decoded}
+use Rattle.control.specs.Block.{validOf, fieldsOf, decodeOf, encodeOf}
+use Rattle.control.proofs.RoundTrip.{decoded}
 use Rattle.controls.specs.Judging.{judgeControlsOf}
 use Rattle.script.specs.declared.Event.{Event}
 use Rattle.script.specs.declared.Checked.{Checked}
 use Rattle.script.specs.declared.Checked.the-variants.{WellFormed, Refused}
 use Rattle.script.specs.Script.{wellFormed, countOf, slicesOf, allReadable, eventsIn, eventsOf, samplesOf, checkOf}
 use Rattle.script.proofs.Laws.{slicesFrom, sample-le}
-use Rattle.script.proofs.Cut.{Header, header, events-count}
+use Rattle.script.proofs.Cut.{header, events-count}
 use Rattle.filter.specs.Core.{judgeLentOf}
 use Rattle.run.specs.declared.Played.{Played}
 use Rattle.run.specs.declared.Ended.{Ended}
-use Rattle.run.specs.Parts.{judgedOf}
+use Rattle.run.specs.Parts.{gainValue, stateGain, judgedOf}
 use Rattle.run.proofs.Changes.{judged-is}
-use Rattle.filter.specs.Plain.{Plain, plainStep}
-use Rattle.run.specs.Run.{Ran, stopped, went, playOf, playedOf, sampleBytes, isValid, judgeBlockOf, judgeScriptOf, judgeRunOf, Run, leftOf, runOf}
+use Rattle.filter.specs.Plain.{plainStep}
+use Rattle.run.specs.Run.{Ran, stopped, went, playOf, playedOf, sampleBytes, isValid, judgeBlockOf, judgeScriptOf, judgeRunOf, leftOf, runOf}
 use Rattle.run.specs.Rows.{playEnd, endedOf}
 use Rattle.run.proofs.Bytes.{length-outputs}
 use Rattle.run.proofs.Loop.{played-few}
@@ -65,71 +66,79 @@ module _ (script : List ℕ) (room : ℕ) where
       go true w p = cc
       go false w p = cc
 
--- ---- what a run that is not turned back has
+-- ---- a script that is not refused
 
-module _ (bundle curves block script : List ℕ) (room : ℕ) (judged : judgeRunOf bundle curves block script room ≡ Done) where
-  parts : (judgeLentOf bundle curves ≡ Done) × (judgeBlockOf block ≡ Done) × (judgeScriptOf script room ≡ Done)
+module _ (script : List ℕ) (room : ℕ) (fine : judgeScriptOf script room ≡ Done) where
+  both-done : (unlessOf (wellFormed script) Script ≡ Done) × (unlessOf (leb (16 * samplesOf (eventsOf script)) room) OutputLength ≡ Done)
+  unfolding judgeScriptOf
+  both-done = first-done (unlessOf (wellFormed script) Script) (unlessOf (leb (16 * samplesOf (eventsOf script)) room) OutputLength) fine
+
+  formed : wellFormed script ≡ true
+  formed = unless-done (wellFormed script) Script refl (both-done .0)
+
+  fitting : 16 * samplesOf (eventsOf script) ≤ room
+  fitting = leb-true (16 * samplesOf (eventsOf script)) room (unless-done (leb (16 * samplesOf (eventsOf script)) room) OutputLength refl (both-done .1))
+
+-- ---- the start, from a valid state
+
+module _ (bundle curves script : List ℕ) (s : State) (valid : validOf s ≡ true) {a : Answer} (is : a ≡ judgedOf bundle s) {d : Bool} (is-d : d ≡ isDoneOf a) where
+  answer-is : a ≡ judgeControlsOf bundle s
+  answer-is = is ∙ judged-is bundle s valid
+
+  done-here : (v : Bool) → d ≡ v → isDoneOf (judgeControlsOf bundle s) ≡ v
+  done-here v h = ap isDoneOf (sym answer-is) ∙ sym is-d ∙ h
+
+  -- refused by its controls
+  pub start-stops : d ≡ false → (output : List ℕ)
+      → (_≡_ {A = Played} (record { answer = a; events = 0; samples = 0; state = s }) (playEnd 0 0 (playedOf bundle curves s (eventsOf script))))
+      × (output ≡ putAt output 0 (sampleBytes (playedOf bundle curves s (eventsOf script) .samples)))
+  unfolding playedOf sampleBytes
+  start-stops f output = rw (answer-is, done-here false f) (refl, sym (putAt-nil output 0))
+
+  module _ (t : d ≡ true) {count : ℕ} (c : count ≡ u32At script 0) where
+    first-is : slicesFrom script count 0 ≡ slicesOf script
+    first-is = rw (c, sub-zero (countOf script)) refl
+
+    pub start-plays : playOf bundle curves s (eventsIn (slicesFrom script count 0)) ≡ playedOf bundle curves s (eventsOf script)
+    unfolding playedOf
+    start-plays = rw (done-here true t, first-is) refl
+
+    pub ready : {room : ℕ} → judgeLentOf bundle curves ≡ Done → judgeScriptOf script room ≡ Done → {g : Float} → g ≡ gainValue (stateGain bundle s)
+        → (count ≤ 65536) × (judgeLentOf bundle curves ≡ Done) × (validOf s ≡ true) × (judgeControlsOf bundle s ≡ Done) × (allReadable (slicesFrom script count 0) ≡ true)
+        × (16 * samplesOf (eventsIn (slicesFrom script count 0)) ≤ room) × (g ≡ gainValue (stateGain bundle s))
+    ready {room} lent fine gained =
+        let k = header script (formed script room fine) in
+        rw first-is (rw c (k .few), lent, valid, done-is (judgeControlsOf bundle s) (done-here true t), k .readable, fitting script room fine, gained)
+
+-- ---- what is judged before the controls
+
+module _ (bundle curves block script : List ℕ) (room : ℕ) where
+  pub judged-invalid : {x : Decoded} → x ≡ decodeOf block → x ≡ Invalid → firstOf (judgeLentOf bundle curves) Argument ≡ judgeRunOf bundle curves block script room
   unfolding judgeRunOf
-  parts =
-      let p = first-done (judgeLentOf bundle curves) (firstOf (judgeBlockOf block) (judgeScriptOf script room)) judged in
-      let q = first-done (judgeBlockOf block) (judgeScriptOf script room) (p .1) in
-      (p .0, q .0, q .1)
+  judged-invalid e h = rw (sym e ∙ h) refl
 
-  pub formed : wellFormed script ≡ true
-  unfolding judgeScriptOf
-  formed = unless-done (wellFormed script) Script refl (first-done (unlessOf (wellFormed script) Script) (unlessOf (leb (16 * samplesOf (eventsOf script)) room) OutputLength) (parts .2) .0)
+  pub judged-valid : (s : State) {x : Decoded} → x ≡ decodeOf block → x ≡ Valid s
+      → firstOf (judgeLentOf bundle curves) (judgeScriptOf script room) ≡ judgeRunOf bundle curves block script room
+  unfolding judgeRunOf
+  judged-valid s e h = rw (sym e ∙ h) refl
 
-  pub roomy : 16 * samplesOf (eventsOf script) ≤ room
-  unfolding judgeScriptOf
-  roomy =
-      leb-true (16 * samplesOf (eventsOf script)) room
-      (unless-done (leb (16 * samplesOf (eventsOf script)) room) OutputLength refl
-      (first-done (unlessOf (wellFormed script) Script) (unlessOf (leb (16 * samplesOf (eventsOf script)) room) OutputLength) (parts .2) .1))
+  module _ (judged : judgeRunOf bundle curves block script room ≡ Done) where
+    parts : (judgeLentOf bundle curves ≡ Done) × (judgeBlockOf block ≡ Done) × (judgeScriptOf script room ≡ Done)
+    unfolding judgeRunOf
+    parts =
+        let p = first-done (judgeLentOf bundle curves) (firstOf (judgeBlockOf block) (judgeScriptOf script room)) judged in
+        let q = first-done (judgeBlockOf block) (judgeScriptOf script room) (p .1) in
+        (p .0, q .0, q .1)
 
-  valid-block : isValid (decodeOf block) ≡ true
-  valid-block = unless-done (isValid (decodeOf block)) Argument refl (parts .1)
+    pub roomy : 16 * samplesOf (eventsOf script) ≤ room
+    roomy = fitting script room (parts .2)
 
-  pub not-invalid : {x : Decoded} → x ≡ decodeOf block → x ≡ Invalid → ⊥
-  not-invalid e h = true≢false (sym valid-block ∙ ap isValid (sym e ∙ h))
-
-  pub block-long : length block ≡ 24
-  block-long = go (decodeOf block) refl valid-block
-    where
-      go : (x : Decoded) → decodeOf block ≡ x → isValid x ≡ true → length block ≡ 24
-      go (Valid s) e h = decoded block s e .long
-      go Invalid e h = absurd (true≢false (sym h))
-
-  -- the start
-  module _ (s : State) {x : Decoded} (e : x ≡ decodeOf block) (h : x ≡ Valid s) {a : Answer} (is : a ≡ judgedOf bundle s) {d : Bool} (is-d : d ≡ isDoneOf a) where
-    decodes : Decodes block s
-    decodes = decoded block s (sym e ∙ h)
-
-    answer-is : a ≡ judgeControlsOf bundle s
-    answer-is = is ∙ judged-is bundle s (decodes .valid)
-
-    done-here : (v : Bool) → d ≡ v → isDoneOf (judgeControlsOf bundle s) ≡ v
-    done-here v h = ap isDoneOf (sym answer-is) ∙ sym is-d ∙ h
-
-    -- refused by its controls
-    pub start-stops : d ≡ false → (output : List ℕ)
-        → (_≡_ {A = Played} (record { answer = a; events = 0; samples = 0; state = s }) (playEnd 0 0 (playedOf bundle curves (fieldsOf block) (eventsOf script))))
-        × (output ≡ putAt output 0 (sampleBytes (playedOf bundle curves (fieldsOf block) (eventsOf script) .samples)))
-    unfolding playedOf sampleBytes
-    start-stops f output = rw (decodes .fields, answer-is, done-here false f) (refl, sym (putAt-nil output 0))
-
-    module _ (t : d ≡ true) where
-      pub first-is : slicesFrom script (u32At script 0) 0 ≡ slicesOf script
-      first-is = rw (sub-zero (countOf script)) refl
-
-      pub start-plays : {count : ℕ} → count ≡ u32At script 0 → playOf bundle curves s (eventsIn (slicesFrom script count 0)) ≡ playedOf bundle curves (fieldsOf block) (eventsOf script)
-      unfolding playedOf
-      start-plays c = rw (c, decodes .fields, done-here true t, first-is) refl
-
-      pub ready : {count : ℕ} → count ≡ u32At script 0
-          → (count ≤ 65536) × (judgeLentOf bundle curves ≡ Done) × (validOf s ≡ true) × (judgeControlsOf bundle s ≡ Done) × (allReadable (slicesFrom script count 0) ≡ true) × (16 * samplesOf (eventsIn (slicesFrom script count 0)) ≤ room)
-      ready c =
-          let k = header script formed in
-          rw (c, first-is) (k .few, parts .0, decodes .valid, done-is (judgeControlsOf bundle s) (done-here true t), k .readable, roomy)
+    block-long : length block ≡ 24
+    block-long = go (decodeOf block) refl (unless-done (isValid (decodeOf block)) Argument refl (parts .1))
+      where
+        go : (x : Decoded) → decodeOf block ≡ x → isValid x ≡ true → length block ≡ 24
+        go (Valid s) e h = decoded block s e .long
+        go Invalid e h = absurd (true≢false (sym h))
 
 -- ---- the bytes that are left
 
@@ -153,7 +162,7 @@ module _ (bundle curves block script output : List ℕ) (judged : judgeRunOf bun
       putAt-in output 0 (sampleBytes (ran .samples)) (omega arith)
       ∙ rw (zero-add (length (sampleBytes (ran .samples))), n) refl
 
-  pub run-done :
+  run-done :
       {p : Played} → p ≡ playEnd 0 0 ran → {after state : List ℕ} → after ≡ putAt output 0 (sampleBytes (ran .samples)) → state ≡ encodeOf (p .state) block
       → (_≡_ {A = Ended} (record { answer = p .answer; events = p .events; samples = p .samples }) (endedOf (runOf bundle curves block script output)))
       × ((state ≡ runOf bundle curves block script output .state) × (after ≡ runOf bundle curves block script output .output))
@@ -161,6 +170,33 @@ module _ (bundle curves block script output : List ℕ) (judged : judgeRunOf bun
   run-done is put left =
       rw (put, left, is, judged, eq-eqb (length block) 24 (block-long bundle curves block script (length output) judged), zero-add (ran .events), zero-add (length (ran .samples)))
       (refl, (refl, front))
+
+-- from the state that the block stands for
+module _ (bundle curves block script : List ℕ) (s : State) {x : Decoded} (e : x ≡ decodeOf block) (h : x ≡ Valid s) where
+  module _ (room : ℕ) {a : Answer} (is-a : a ≡ firstOf (judgeLentOf bundle curves) (judgeScriptOf script room)) where
+    pub valid-judged : a ≡ judgeRunOf bundle curves block script room
+    valid-judged = is-a ∙ judged-valid bundle curves block script room s e h
+
+    pub valid-fine : a ≡ Done → (judgeLentOf bundle curves ≡ Done) × (validOf s ≡ true) × (judgeScriptOf script room ≡ Done)
+    valid-fine done =
+        let p = first-done (judgeLentOf bundle curves) (judgeScriptOf script room) (sym is-a ∙ done) in
+        (p .0, decoded block s (sym e ∙ h) .valid, p .1)
+
+  pub valid-done : (output : List ℕ) {a : Answer} → a ≡ firstOf (judgeLentOf bundle curves) (judgeScriptOf script (length output)) → a ≡ Done
+      → {p : Played} → p ≡ playEnd 0 0 (playedOf bundle curves s (eventsOf script)) → {after state : List ℕ}
+      → after ≡ putAt output 0 (sampleBytes (playedOf bundle curves s (eventsOf script) .samples)) → state ≡ encodeOf (p .state) block
+      → (_≡_ {A = Ended} (record { answer = p .answer; events = p .events; samples = p .samples }) (endedOf (runOf bundle curves block script output)))
+      × ((state ≡ runOf bundle curves block script output .state) × (after ≡ runOf bundle curves block script output .output))
+  valid-done output is-a done is put left =
+      let f = decoded block s (sym e ∙ h) .fields in
+      run-done bundle curves block script output (sym (valid-judged (length output) is-a) ∙ done) (rw f is) (rw f put) left
+
+never-done : (l : Answer) → isDoneOf (firstOf l Argument) ≡ false
+never-done l = go (isDoneOf l) refl
+  where
+    go : (d : Bool) → isDoneOf l ≡ d → isDoneOf (cond d Argument l) ≡ false
+    go true h = refl
+    go false h = h
 
 pub run-refused :
     (bundle curves block script output : List ℕ) {a : Answer} → a ≡ judgeRunOf bundle curves block script (length output) → isDoneOf a ≡ false
@@ -170,6 +206,14 @@ unfolding runOf
 run-refused bundle curves block script output is off =
     let d : isDoneOf (judgeRunOf bundle curves block script (length output)) ≡ false = ap isDoneOf (sym is) ∙ off in
     rw (is, d) (refl, (refl, refl))
+
+-- an invalid block
+pub invalid-refused :
+    (bundle curves block script output : List ℕ) {x : Decoded} → x ≡ decodeOf block → x ≡ Invalid → {a : Answer} → a ≡ firstOf (judgeLentOf bundle curves) Argument
+    → (_≡_ {A = Ended} (record { answer = a; events = 0; samples = 0 }) (endedOf (runOf bundle curves block script output)))
+    × ((block ≡ runOf bundle curves block script output .state) × (output ≡ runOf bundle curves block script output .output))
+invalid-refused bundle curves block script output e h is =
+    run-refused bundle curves block script output (is ∙ judged-invalid bundle curves block script (length output) e h) (ap isDoneOf is ∙ never-done (judgeLentOf bundle curves))
 
 -- ---- how many events and samples there can be
 
@@ -198,7 +242,7 @@ run-most bundle curves block script output = go (isDoneOf (judgeRunOf bundle cur
         × (cond d (leftOf (playedOf bundle curves (fieldsOf block) (eventsOf script)) output) (record { answer = judgeRunOf bundle curves block script (length output); events = 0; samples = 0; state = block; output = output }) .samples ≤ 65536)
     go true h =
         let judged = done-is (judgeRunOf bundle curves block script (length output)) h in
-        let f = formed bundle curves block script (length output) judged in
+        let f = formed script (length output) (parts bundle curves block script (length output) judged .2) in
         let n = events-count script f in
         let few = header script f .few in
         let most = samples-most (eventsOf script) in
@@ -208,7 +252,7 @@ run-most bundle curves block script output = go (isDoneOf (judgeRunOf bundle cur
         either : (d : Bool) → cond d (playOf bundle curves (fieldsOf block) (eventsOf script)) (stopped (judgeControlsOf bundle (fieldsOf block)) (fieldsOf block)) .events ≤ 65536
         either true =
             let judged = done-is (judgeRunOf bundle curves block script (length output)) h in
-            let f = formed bundle curves block script (length output) judged in
+            let f = formed script (length output) (parts bundle curves block script (length output) judged .2) in
             omega (arith, play-most bundle curves (fieldsOf block) (eventsOf script), events-count script f, header script f .few)
         either false = omega arith
     go false h = (omega arith, omega arith)

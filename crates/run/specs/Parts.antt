@@ -1,12 +1,17 @@
 -- What the run keeps between samples in a row: of the controls the part that a sample reads, and the summer's rest.
-use Prim.Native.Nat.{ℕ}
+use Prim.Native.Nat.{ℕ, _+_}
 use mathlib.Core.List.{List}
 use lib.Ieee.{Float}
 use Rattle.answers.specs.declared.Answer.{Answer}
 use Rattle.answers.specs.declared.Answer.the-variants.{Done}
+use Rattle.answers.specs.declared.Buffer.the-variants.{Bundle}
 use Rattle.answers.specs.Answers.{firstOf}
 use Rattle.floats.specs.Arithmetic.{f32}
 use Rattle.bundle.specs.declared.Read.{Read}
+use Rattle.bundle.specs.Opening.{judgePlacesOf}
+use Rattle.bundle.specs.Reading.{readOf}
+use Rattle.curves.specs.Sampling.{restingOutputOf, restingPlacesOf}
+use Rattle.sample.specs.Sample.{summerInputsOf}
 use Rattle.bundle.specs.declared.Read.the-variants.{Value, Refused}
 use Rattle.control.specs.declared.State.{State}
 use Rattle.control.specs.Registers.{effectiveCutoffOf}
@@ -18,8 +23,10 @@ use Rattle.sample.specs.Kept.{cacheOf, restOf}
 use Rattle.script.specs.declared.Event.{Event}
 use Rattle.filter.specs.Core.{freshTopologyOf}
 use Rattle.run.specs.declared.Parts.{Parts}
-use Rattle.run.specs.declared.Changed.{Changed}
-use Rattle.run.specs.Rows.{Samples, rowOf}
+use Rattle.run.specs.declared.Resting.{Resting}
+use Rattle.run.specs.declared.Judged.{Judged}
+use Rattle.run.specs.declared.Moved.{Moved}
+use Rattle.run.specs.Rows.{Samples, Moves, rowOf}
 
 -- a gain that was read, with its answer; 0 where it was refused
 abbrev pub gainValue : Read → Float
@@ -50,8 +57,18 @@ partsOf bundle s =
 abbrev pub judgedOf : List ℕ → State → Answer
 judgedOf bundle s = firstOf (judgeFilterOf bundle (effectiveCutoffOf s) (s .registers .resonance)) (gainAnswer (stateGain bundle s))
 
-abbrev pub changedTo : Answer → State → Changed
-changedTo answer s = record { answer = answer; state = s }
+abbrev pub judgedWith : List ℕ → State → Judged
+judgedWith bundle s = record { answer = judgedOf bundle s; gain = gainValue (stateGain bundle s) }
+
+-- other events in a row, after the events before
+abbrev pub movesEnd : List ℕ → ℕ → Moves → Moved
+movesEnd bundle events m = record { answer = m .answer; events = events + m .events; state = m .state; gain = gainValue (stateGain bundle (m .state)) }
+
+-- the summer's rest at a count of inputs, which is all that `restOf` reads of a topology
+abbrev pub restingOf : List ℕ → ℕ → Resting
+restingOf bundle count =
+    let inputs = summerInputsOf count in
+    record { inputs = count; rest = readOf (judgePlacesOf Bundle bundle (restingPlacesOf inputs)) (restingOutputOf bundle inputs) }
 
 -- the controls that a sample reads of the parts
 abbrev pub cacheOfParts : Parts → ControlCache

@@ -3,7 +3,6 @@ use Prim.Native.Nat.{ℕ, suc, _+_}
 use mathlib.Core.Bool.{true, false, cond}
 use mathlib.Core.List.{List, [], _∷_}
 use lib.ListN.{length}
-use lib.Ieee.{Float}
 use Rattle.answers.specs.declared.Answer.{Answer}
 use Rattle.answers.specs.declared.Answer.the-variants.{Done}
 use Rattle.answers.specs.Answers.{isDoneOf}
@@ -17,12 +16,11 @@ use Rattle.controls.specs.declared.ControlCache.{ControlCache}
 use Rattle.sample.specs.declared.Outputs.{Outputs}
 use Rattle.sample.specs.declared.Sampled.{Sampled}
 use Rattle.sample.specs.declared.Sampled.the-variants.{Taken, Refused}
-use Rattle.sample.specs.Sample.{sampleOf}
+use Rattle.sample.specs.Sample.{summerSlotOf, sampleOf}
 use Rattle.script.specs.declared.Event.{Event}
 use Rattle.script.specs.declared.Event.the-variants.{CutoffLow, CutoffHigh, Routing, Mode, Sample, Reset}
 use Rattle.run.specs.declared.Asked.{Asked}
 use Rattle.run.specs.declared.Row.{Row}
-use Rattle.run.specs.declared.Moved.{Moved}
 use Rattle.run.specs.declared.Played.{Played}
 use Rattle.run.specs.declared.Ended.{Ended}
 use Rattle.run.specs.Run.{Ran, Run}
@@ -61,7 +59,7 @@ unfoldable pub rowOf : List ℕ → List ℕ → MixingTopology → ControlCache
 rowOf bundle curves t c mode i [] = noSamples Done i
 rowOf bundle curves t c mode i (e ∷ es) =
     cond (askedOf e .sample)
-    (rowOn (λ j. rowOf bundle curves t c mode j es) i (sampleOf bundle curves t c mode i (askedOf e .«input_sum») (askedOf e .«source_energy»)))
+    (rowOn (λ j. rowOf bundle curves t c mode j es) i (sampleOf bundle curves (summerSlotOf t) t c mode i (askedOf e .«input_sum») (askedOf e .«source_energy»)))
     (noSamples Done i)
 
 -- The state that an event which is no sample leads to.
@@ -97,11 +95,12 @@ movesOf bundle s (e ∷ es) =
 abbrev pub rowEnd : ℕ → ℕ → Samples → Row
 rowEnd events samples r = record { answer = r .answer; events = events + r .events; samples = samples + length (r .outputs); integrator = r .integrator }
 
-abbrev pub movesEnd : ℕ → Moves → Moved
-movesEnd events m = record { answer = m .answer; events = events + m .events; state = m .state }
-
 abbrev pub playEnd : ℕ → ℕ → Ran → Played
 playEnd events samples r = record { answer = r .answer; events = events + r .events; samples = samples + length (r .samples); state = r .state }
+
+-- what a run answers that has done nothing
+abbrev pub turnedBack : Answer → Ended
+turnedBack answer = record { answer = answer; events = 0; samples = 0 }
 
 -- what a run answers, without the bytes
 abbrev pub endedOf : Run → Ended

@@ -4,7 +4,6 @@ ghost use mathlib.Core.Bool.{true};
 ghost use Prim.Native.Nat.{_+_, _*_, _≤_};
 ghost use lib.ListN.{length};
 ghost use Rattle.wire.specs.Wire.{putAt};
-ghost use Rattle.control.specs.Block.{fieldsOf};
 ghost use Rattle.script.specs.Script.{allReadable, eventsIn, eventsOf, samplesOf};
 ghost use Rattle.script.proofs.Laws.{slicesFrom};
 ghost use Rattle.answers.specs.declared.Answer.the-variants.{Done};
@@ -13,6 +12,8 @@ ghost use Rattle.kept.specs.Kept.{coreRefreshedOf};
 ghost use Rattle.filter.specs.Core.{freshTopologyOf, judgeLentOf};
 ghost use Rattle.control.specs.Block.{validOf};
 ghost use Rattle.controls.specs.Judging.{judgeControlsOf};
+ghost use Rattle.sample.specs.Kept.{restOf};
+ghost use Rattle.sample.specs.Sample.{outputsFinite};
 ghost use Rattle.run.specs.Run as R;
 ghost use Rattle.run.specs.Rows as W;
 ghost use Rattle.run.specs.Parts as P;
@@ -60,10 +61,16 @@ pub struct Parts {
     pub rest: Read,
 }
 
-// The state after an event that is no sample, and whether it is refused.
-pub struct Changed {
+// The summer's rest at a count of the filter's inputs.
+pub struct Resting {
+    pub inputs: usize,
+    pub rest: Read,
+}
+
+// What the controls of a state refuse, and its mode's gain.
+pub struct Judged {
     pub answer: Answer,
-    pub state: State,
+    pub gain: f32,
 }
 
 // Where events in a row that are no samples end, by the events done up to there.
@@ -71,6 +78,7 @@ pub struct Moved {
     pub answer: Answer,
     pub events: usize,
     pub state: State,
+    pub gain: f32,
 }
 
 // Where the events end.
@@ -131,13 +139,6 @@ fn gain_answer(gain: Read) -> Answer
     }
 }
 
-fn gain_of(bundle: &[u8], state: State) -> Read
-    ensures { λ r. ⌜ r ≡ P.stateGain (now (bundle .entry)) state ⌝ }
-{
-    let registers = state.registers;
-    kept::refresh_gain(bundle, registers, state.effective_cutoff())
-}
-
 fn core_of(bundle: &[u8], state: State) -> CoreRefreshed
     ensures { λ r. ⌜ r ≡ coreRefreshedOf (now (bundle .entry)) (effectiveCutoffOf state) (state .registers .resonance) ⌝ }
 {
@@ -152,8 +153,9 @@ fn topology_of(state: State) -> MixingTopology
     MixingTopology::update(registers.routing, registers.mode)
 }
 
-// Everything, worked out from a state.
-fn parts_of(bundle: &[u8], state: State) -> Parts
+// What samples in a row read, from a state with its mode's gain and its summer's rest.
+fn parts_of(bundle: &[u8], state: State, gain: f32, rest: Read) -> Parts
+    requires { ⌜ (gain ≡ P.gainValue (P.stateGain (now bundle) state)) × (rest ≡ restOf (now bundle) (freshTopologyOf state)) ⌝ }
     ensures { λ r. ⌜ r ≡ P.partsOf (now (bundle .entry)) state ⌝ }
 {
     let fresh = core_of(bundle, state);
@@ -164,74 +166,78 @@ fn parts_of(bundle: &[u8], state: State) -> Parts
         topology,
         gains,
         core,
-        mode_output_gain: gain_value(gain_of(bundle, state)),
+        mode_output_gain: gain,
+        rest,
+    }
+}
+
+fn resting_of(bundle: &[u8], topology: MixingTopology) -> Resting
+    ensures { λ r. ⌜ r ≡ P.restingOf (now (bundle .entry)) (topology .«filter_input_count») ⌝ }
+{
+    Resting {
+        inputs: topology.filter_input_count,
         rest: sample::rest_of(bundle, topology),
     }
 }
 
+// The same from one that is kept: it stays where the count of inputs does.
+fn resting_from(bundle: &[u8], kept: Resting, topology: MixingTopology) -> Resting
+    requires { ⌜ kept ≡ P.restingOf (now bundle) (kept .inputs) ⌝ }
+    ensures { λ r. ⌜ r ≡ P.restingOf (now (bundle .entry)) (topology .«filter_input_count») ⌝ }
+{
+    if topology.filter_input_count == kept.inputs {
+        return kept;
+    }
+    resting_of(bundle, topology)
+}
+
 // ---- what is refused
 
-// What the controls of a state refuse: 3 of the filter's entries, then 3 and 6 of the gain.
-fn judge_state(bundle: &[u8], state: State) -> Answer
-    ensures { λ r. ⌜ r ≡ P.judgedOf (now (bundle .entry)) state ⌝ }
+// What the controls of a state refuse, 3 of the filter's entries, then 3 and 6 of the gain, and the gain.
+fn judge_state(bundle: &[u8], state: State) -> Judged
+    ensures { λ r. ⌜ r ≡ P.judgedWith (now (bundle .entry)) state ⌝ }
 {
     let registers = state.registers;
     let effective = state.effective_cutoff();
     let core = kept::judge_core(bundle, effective, registers.resonance);
     let gain = kept::refresh_gain(bundle, registers, effective);
-    answers::first(core, gain_answer(gain))
-}
-
-// A state that an event leads to.
-fn changed_to(bundle: &[u8], next: State) -> Changed
-    ensures { λ r. ⌜ r ≡ P.changedTo (P.judgedOf (now (bundle .entry)) next) next ⌝ }
-{
-    Changed {
-        answer: judge_state(bundle, next),
-        state: next,
+    Judged {
+        answer: answers::first(core, gain_answer(gain)),
+        gain: gain_value(gain),
     }
 }
 
-// An event that is no sample. After a write of the mode the filter's entries are those that were judged before.
-fn change(bundle: &[u8], state: State, event: Event) -> Changed
-    requires { ⌜ (validOf state ≡ true) × (judgeControlsOf (now bundle) state ≡ Done) ⌝ }
-    ensures { λ r. ⌜ r ≡ P.changedTo (judgeControlsOf (now (bundle .entry)) (W.nextOf state event)) (W.nextOf state event) ⌝ }
+// The state that an event which is no sample leads to.
+fn next_state(state: State, event: Event) -> State
+    ensures { λ r. ⌜ r ≡ W.nextOf state event ⌝ }
 {
     match event {
-        Event::CutoffLow(value) => changed_to(bundle, state.write_cutoff_low(value)),
-        Event::CutoffHigh(value) => changed_to(bundle, state.write_cutoff_high(value)),
-        Event::Routing(value) => changed_to(bundle, state.write_signal_routing(value)),
-        Event::Mode(value) => {
-            let next = state.write_mode_and_volume(value);
-            Changed {
-                answer: gain_answer(gain_of(bundle, next)),
-                state: next,
-            }
-        }
+        Event::CutoffLow(value) => state.write_cutoff_low(value),
+        Event::CutoffHigh(value) => state.write_cutoff_high(value),
+        Event::Routing(value) => state.write_signal_routing(value),
+        Event::Mode(value) => state.write_mode_and_volume(value),
         Event::Sample {
-            input_sum,
-            source_energy,
-        } => Changed {
-            answer: Answer::Done,
-            state,
-        },
-        Event::Reset => changed_to(bundle, state.reset()),
+            input_sum: _,
+            source_energy: _,
+        } => state,
+        Event::Reset => state.reset(),
     }
 }
 
 // ---- samples in a row
 
-// Writes a sample's sixteen bytes.
+// Writes a sample's sixteen bytes. Its numbers are finite, so that each has bits of its own.
 fn put_outputs(output: &mut [u8], place: usize, o: Outputs)
+    requires { ⌜ outputsFinite o ≡ true ⌝ }
     ensures { λ _. ⌜ now (output .exit) ≡ putAt (now (output .entry)) place (R.outputBytes o) ⌝ }
 {
     wire::put_row(
         output,
         place,
-        wire::float_bits(o.high),
-        wire::float_bits(o.band),
-        wire::float_bits(o.low),
-        wire::float_bits(o.selected),
+        f32::to_bits(o.high),
+        f32::to_bits(o.band),
+        f32::to_bits(o.low),
+        f32::to_bits(o.selected),
     );
 }
 
@@ -240,25 +246,29 @@ fn play_samples(
     bundle: &[u8],
     curves: &[u8],
     state: State,
+    gain: f32,
+    summer_rest: Read,
     script: &[u8],
     start: usize,
     count: usize,
     output: &mut [u8],
     before: usize,
 ) -> Row
-    requires { ⌜ (start ≤ count) × (count ≤ 65536) × (before ≤ start) × (allReadable (slicesFrom (now script) count start) ≡ true) × (16 * (before + samplesOf (eventsIn (slicesFrom (now script) count start))) ≤ length (now output)) ⌝ }
+    requires { ⌜ (start ≤ count) × (count ≤ 65536) × (before ≤ start) × (allReadable (slicesFrom (now script) count start) ≡ true) × (16 * (before + samplesOf (eventsIn (slicesFrom (now script) count start))) ≤ length (now output)) × (gain ≡ P.gainValue (P.stateGain (now bundle) state)) × («summer_rest» ≡ restOf (now bundle) (freshTopologyOf state)) ⌝ }
     ensures { λ r. ⌜ (r ≡ W.rowEnd start before (P.keptRowOf (now (bundle .entry)) (now (curves .entry)) state (eventsIn (slicesFrom (now (script .entry)) count start)))) × (now (output .exit) ≡ putAt (now (output .entry)) (16 * before) (R.sampleBytes (P.keptRowOf (now (bundle .entry)) (now (curves .entry)) state (eventsIn (slicesFrom (now (script .entry)) count start)) .outputs))) ⌝ }
 {
-    let parts = parts_of(bundle, state);
+    let parts = parts_of(bundle, state, gain, summer_rest);
     let topology = parts.topology;
     let gains = parts.gains;
     let core = parts.core;
     let rest = parts.rest;
+    let slot = sample::summer_slot(topology);
     let registers = state.registers;
     let from = state.integrator;
     let input_drives = kept::input_drives();
     let feedback_drives = kept::feedback_drives();
     let mut integrator = from;
+    let mut earlier = from;
     let mut samples = before;
     let mut i = start;
     while i < count {
@@ -274,6 +284,7 @@ fn play_samples(
         if ask.sample {
             match sample::sample_kept(
                 curves,
+                slot,
                 topology,
                 &gains,
                 &input_drives,
@@ -283,11 +294,13 @@ fn play_samples(
                 rest,
                 registers.mode,
                 integrator,
+                earlier,
                 ask.input_sum,
                 ask.source_energy,
             ) {
                 Sampled::Taken { outputs, state } => {
                     put_outputs(output, 16 * samples, outputs);
+                    earlier = integrator;
                     integrator = state;
                     samples += 1;
                     i += 1;
@@ -321,11 +334,19 @@ fn play_samples(
 // ---- other events in a row
 
 // The events in a row from an event on that are no samples.
-fn play_changes(bundle: &[u8], from: State, script: &[u8], start: usize, count: usize) -> Moved
-    requires { ⌜ (start ≤ count) × (count ≤ 65536) × (validOf from ≡ true) × (judgeControlsOf (now bundle) from ≡ Done) × (allReadable (slicesFrom (now script) count start) ≡ true) ⌝ }
-    ensures { λ r. ⌜ r ≡ W.movesEnd start (W.movesOf (now (bundle .entry)) from (eventsIn (slicesFrom (now (script .entry)) count start))) ⌝ }
+fn play_changes(
+    bundle: &[u8],
+    from: State,
+    given: f32,
+    script: &[u8],
+    start: usize,
+    count: usize,
+) -> Moved
+    requires { ⌜ (start ≤ count) × (count ≤ 65536) × (validOf from ≡ true) × (allReadable (slicesFrom (now script) count start) ≡ true) × (given ≡ P.gainValue (P.stateGain (now bundle) from)) ⌝ }
+    ensures { λ r. ⌜ r ≡ P.movesEnd (now (bundle .entry)) start (W.movesOf (now (bundle .entry)) from (eventsIn (slicesFrom (now (script .entry)) count start))) ⌝ }
 {
     let mut state = from;
+    let mut gain = given;
     let mut i = start;
     while i < count {
         let Decoded::Readable(event) = script::event_at(script, 8 + 12 * i) else {
@@ -333,6 +354,7 @@ fn play_changes(bundle: &[u8], from: State, script: &[u8], start: usize, count: 
                 answer: Answer::Script,
                 events: i,
                 state,
+                gain,
             };
         };
         let ask = asks(event);
@@ -341,18 +363,22 @@ fn play_changes(bundle: &[u8], from: State, script: &[u8], start: usize, count: 
                 answer: Answer::Done,
                 events: i,
                 state,
+                gain,
             };
         }
-        let changed = change(bundle, state, event);
-        let answer = changed.answer;
+        let next = next_state(state, event);
+        let judged = judge_state(bundle, next);
+        let answer = judged.answer;
         if answers::is_done(answer) {
-            state = changed.state;
+            state = next;
+            gain = judged.gain;
             i += 1;
         } else {
             return Moved {
                 answer,
                 events: i,
                 state,
+                gain,
             };
         }
     }
@@ -360,46 +386,64 @@ fn play_changes(bundle: &[u8], from: State, script: &[u8], start: usize, count: 
         answer: Answer::Done,
         events: i,
         state,
+        gain,
     }
 }
 
 // ---- the events
 
-// The events of a script from a state on: samples in a row, then other events in a row, and so on.
+// The events of a script from a judged state with its gain on: other events in a row, then samples in a row, and so on; a row may be empty.
 fn play(
     bundle: &[u8],
     curves: &[u8],
     first: State,
+    given: f32,
     script: &[u8],
     count: usize,
     output: &mut [u8],
 ) -> Played
-    requires { ⌜ (count ≤ 65536) × (judgeLentOf (now bundle) (now curves) ≡ Done) × (validOf first ≡ true) × (judgeControlsOf (now bundle) first ≡ Done) × (allReadable (slicesFrom (now script) count 0) ≡ true) × (16 * samplesOf (eventsIn (slicesFrom (now script) count 0)) ≤ length (now output)) ⌝ }
+    requires { ⌜ (count ≤ 65536) × (judgeLentOf (now bundle) (now curves) ≡ Done) × (validOf first ≡ true) × (judgeControlsOf (now bundle) first ≡ Done) × (allReadable (slicesFrom (now script) count 0) ≡ true) × (16 * samplesOf (eventsIn (slicesFrom (now script) count 0)) ≤ length (now output)) × (given ≡ P.gainValue (P.stateGain (now bundle) first)) ⌝ }
     ensures { λ r. ⌜ (r ≡ W.playEnd 0 0 (R.playOf (now (bundle .entry)) (now (curves .entry)) first (eventsIn (slicesFrom (now (script .entry)) count 0)))) × (now (output .exit) ≡ putAt (now (output .entry)) 0 (R.sampleBytes (R.playOf (now (bundle .entry)) (now (curves .entry)) first (eventsIn (slicesFrom (now (script .entry)) count 0)) .samples))) ⌝ }
 {
+    let mut resting = resting_of(bundle, topology_of(first));
     let mut state = first;
+    let mut gain = given;
     let mut samples = 0;
     let mut i = 0;
     while i < count {
-        let Decoded::Readable(event) = script::event_at(script, 8 + 12 * i) else {
+        let moved = play_changes(bundle, state, gain, script, i, count);
+        let stopped = moved.answer;
+        state = moved.state;
+        gain = moved.gain;
+        i = moved.events;
+        if !answers::is_done(stopped) {
             return Played {
-                answer: Answer::Script,
+                answer: stopped,
                 events: i,
                 samples,
                 state,
             };
-        };
-        let ask = asks(event);
-        if ask.sample {
-            let row = play_samples(bundle, curves, state, script, i, count, output, samples);
-            let answer = row.answer;
-            let after = row.integrator;
-            state.integrator = after;
-            samples = row.samples;
-            i = row.events;
-            if answers::is_done(answer) {
-                continue;
-            }
+        }
+        resting = resting_from(bundle, resting, topology_of(state));
+        let rest = resting.rest;
+        let row = play_samples(
+            bundle,
+            curves,
+            state,
+            gain,
+            rest,
+            script,
+            i,
+            count,
+            output,
+            samples,
+        );
+        let answer = row.answer;
+        let after = row.integrator;
+        state.integrator = after;
+        samples = row.samples;
+        i = row.events;
+        if !answers::is_done(answer) {
             return Played {
                 answer,
                 events: i,
@@ -407,19 +451,6 @@ fn play(
                 state,
             };
         }
-        let moved = play_changes(bundle, state, script, i, count);
-        let answer = moved.answer;
-        state = moved.state;
-        i = moved.events;
-        if answers::is_done(answer) {
-            continue;
-        }
-        return Played {
-            answer,
-            events: i,
-            samples,
-            state,
-        };
     }
     Played {
         answer: Answer::Done,
@@ -443,53 +474,33 @@ fn judge_script(script: &[u8], room: usize) -> Answer
     }
 }
 
-// A valid block. Refuses 10.
-fn judge_block(block: &[u8]) -> Answer
-    ensures { λ r. ⌜ r ≡ R.judgeBlockOf (now (block .entry)) ⌝ }
+// The controls of a valid state, then the events.
+fn play_from(bundle: &[u8], curves: &[u8], from: State, script: &[u8], output: &mut [u8]) -> Played
+    requires { ⌜ (judgeLentOf (now bundle) (now curves) ≡ Done) × (validOf from ≡ true) × (R.judgeScriptOf (now script) (length (now output)) ≡ Done) ⌝ }
+    ensures { λ r. ⌜ (r ≡ W.playEnd 0 0 (R.playedOf (now (bundle .entry)) (now (curves .entry)) from (eventsOf (now (script .entry))))) × (now (output .exit) ≡ putAt (now (output .entry)) 0 (R.sampleBytes (R.playedOf (now (bundle .entry)) (now (curves .entry)) from (eventsOf (now (script .entry))) .samples))) ⌝ }
 {
-    match State::decode(block) {
-        control::Decoded::Valid(state) => Answer::Done,
-        control::Decoded::Invalid => Answer::Argument,
-    }
-}
-
-// What is judged before the controls: 1, 2, 4, 10, 7, 8.
-fn judge_run(bundle: &[u8], curves: &[u8], block: &[u8], script: &[u8], room: usize) -> Answer
-    ensures { λ r. ⌜ r ≡ R.judgeRunOf (now (bundle .entry)) (now (curves .entry)) (now (block .entry)) (now (script .entry)) room ⌝ }
-{
-    let later = answers::first(judge_block(block), judge_script(script, room));
-    answers::first(filter::judge_lent(bundle, curves), later)
-}
-
-// The controls of the block's state, then the events.
-fn play_block(
-    bundle: &[u8],
-    curves: &[u8],
-    block: &[u8],
-    script: &[u8],
-    output: &mut [u8],
-) -> Played
-    requires { ⌜ R.judgeRunOf (now bundle) (now curves) (now block) (now script) (length (now output)) ≡ Done ⌝ }
-    ensures { λ r. ⌜ (r ≡ W.playEnd 0 0 (R.playedOf (now (bundle .entry)) (now (curves .entry)) (fieldsOf (now (block .entry))) (eventsOf (now (script .entry))))) × (now (output .exit) ≡ putAt (now (output .entry)) 0 (R.sampleBytes (R.playedOf (now (bundle .entry)) (now (curves .entry)) (fieldsOf (now (block .entry))) (eventsOf (now (script .entry))) .samples))) ⌝ }
-{
-    let control::Decoded::Valid(state) = State::decode(block) else {
-        return Played {
-            answer: Answer::Argument,
-            events: 0,
-            samples: 0,
-            state: State::new(),
-        };
-    };
-    let answer = judge_state(bundle, state);
+    let judged = judge_state(bundle, from);
+    let answer = judged.answer;
     if answers::is_done(answer) {
         let count = wire::u32_at(script, 0) as usize;
-        return play(bundle, curves, state, script, count, output);
+        return play(bundle, curves, from, judged.gain, script, count, output);
     }
     Played {
         answer,
         events: 0,
         samples: 0,
-        state,
+        state: from,
+    }
+}
+
+// A run that is turned back has done nothing.
+fn turned_back(answer: Answer) -> Ended
+    ensures { λ r. ⌜ r ≡ W.turnedBack answer ⌝ }
+{
+    Ended {
+        answer,
+        events: 0,
+        samples: 0,
     }
 }
 
@@ -506,9 +517,13 @@ pub fn run(
     ensures { λ _. ⌜ now (state .exit) ≡ R.runOf (now (bundle .entry)) (now (curves .entry)) (now (state .entry)) (now (script .entry)) (now (output .entry)) .state ⌝ }
     ensures { λ _. ⌜ now (output .exit) ≡ R.runOf (now (bundle .entry)) (now (curves .entry)) (now (state .entry)) (now (script .entry)) (now (output .entry)) .output ⌝ }
 {
-    let judged = judge_run(bundle, curves, state, script, output.len());
+    let lent = filter::judge_lent(bundle, curves);
+    let control::Decoded::Valid(from) = State::decode(state) else {
+        return turned_back(answers::first(lent, Answer::Argument));
+    };
+    let judged = answers::first(lent, judge_script(script, output.len()));
     if answers::is_done(judged) {
-        let p = play_block(bundle, curves, state, script, output);
+        let p = play_from(bundle, curves, from, script, output);
         let answer = p.answer;
         let after = p.state;
         after.encode(state);
@@ -518,9 +533,5 @@ pub fn run(
             samples: p.samples,
         };
     }
-    Ended {
-        answer: judged,
-        events: 0,
-        samples: 0,
-    }
+    turned_back(judged)
 }

@@ -17,8 +17,13 @@ gain-answer-requires c κs = search needs
 first-requires : tie.Need-first-requires
 first-requires c κs = search needs
 
+gain-value-requires : tie.Need-gain-value-requires
+gain-value-requires c κs = search needs
+
 returns : tie.Need-returns
-returns c = simp (c .first .ensures, c .before .gain-answer .ensures, c .before .before .refresh-gain .ensures, c .before .before .before .judge-core .ensures, c .before .before .before .before .effective-cutoff .ensures)
+returns c =
+    let g = c .before .before in
+    simp (c .gain-value .ensures, c .before .first .ensures, g .gain-answer .ensures, g .before .refresh-gain .ensures, g .before .before .judge-core .ensures, g .before .before .before .effective-cutoff .ensures)
 
 pub judge-state-spec : {M : Type 1} → statement M
 judge-state-spec =
@@ -29,4 +34,5 @@ judge-state-spec =
     refresh-gain-requires
     gain-answer-requires
     first-requires
+    gain-value-requires
     returns)

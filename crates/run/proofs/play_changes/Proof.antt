@@ -1,16 +1,16 @@
 use Prim.Native.Nat.{_-_}
 use native.Mathlib.Omega.{arith}
-use mathlib.Core.Path.{_≡_, sym, _∙_}
+use mathlib.Core.Path.{sym, _∙_}
 use borrow.Author.Needs.{needs}
 use Rattle.run.proofs.Moves.{Sofar, sofar-start, at-end, unreadable, sampled, moved, refused}
 use Rattle.run.proofs.play_changes.Statement.{statement}
 use Rattle.run.proofs.play_changes.Tie as tie
 
 abbrev Inv-loop : tie.InvT-loop
-Inv-loop bundle script start count state₀ i₀ state i = Sofar bundle script count start state₀ state i
+Inv-loop bundle given script start count state₀ gain₀ i₀ state gain i = Sofar bundle script count start state₀ state gain i
 
 abbrev μ-loop : tie.MeasureT-loop
-μ-loop bundle script start count state₀ i₀ state i = count - i
+μ-loop bundle given script start count state₀ gain₀ i₀ state gain i = count - i
 
 loop-holds : tie.Need-loop-holds Inv-loop μ-loop
 loop-holds c =
@@ -35,7 +35,7 @@ enum-told c = search needs
 returns : tie.Need-returns Inv-loop μ-loop
 returns c =
     let e = c .before .before in
-    absurd (unreadable _ _ _ _ _ _ _ (e .before .before .loop .inv) (e .before .loop-test .taken) (sym (e .event-at .ensures) ∙ c .enum-told .given .1))
+    absurd (unreadable _ _ _ _ _ _ _ _ (e .before .before .loop .inv) (e .before .loop-test .taken) (sym (e .event-at .ensures) ∙ c .enum-told .given .1))
 
 asks-requires : tie.Need-asks-requires Inv-loop μ-loop
 asks-requires c κs = search needs
@@ -46,12 +46,13 @@ returns-2 c =
     let v = a .before .before in
     let e = v .before .before in
     let l = e .before .before in
-    sampled _ _ _ _ _ _ _ (l .loop .inv) (e .before .loop-test .taken) (v .event .given .0 .0) (sym (e .event-at .ensures) ∙ v .event .given .1) (a .asks .ensures) (c .if1 .taken)
+    sampled _ _ _ _ _ _ _ _ (l .loop .inv) (e .before .loop-test .taken) (v .event .given .0 .0) (sym (e .event-at .ensures) ∙ v .event .given .1) (a .asks .ensures) (c .if1 .taken)
 
-change-requires : tie.Need-change-requires Inv-loop μ-loop
-change-requires c κs =
-    let inv = c .before .before .before .before .before .before .before .loop .inv in
-    (inv .valid, inv .judged)
+next-state-requires : tie.Need-next-state-requires Inv-loop μ-loop
+next-state-requires c κs = search needs
+
+judge-state-requires : tie.Need-judge-state-requires Inv-loop μ-loop
+judge-state-requires c κs = search needs
 
 is-done-requires : tie.Need-is-done-requires Inv-loop μ-loop
 is-done-requires c κs = search needs
@@ -73,18 +74,18 @@ loop-again c =
     let v = a .before .before in
     let e = v .before .before in
     let l = e .before .before in
-    moved _ _ _ _ _ _ _ (l .loop .inv) (e .before .loop-test .taken) (v .event .given .0 .0) (sym (e .event-at .ensures) ∙ v .event .given .1) (a .asks .ensures) (c .before .before .before .before .if1 .left) (c .before .before .before .change .ensures) (c .before .before .is-done .ensures) (c .before .if2 .taken)
+    moved _ _ _ _ _ _ _ _ (l .loop .inv) (e .before .loop-test .taken) (v .event .given .0 .0) (sym (e .event-at .ensures) ∙ v .event .given .1) (a .asks .ensures) (c .before .before .before .before .if1 .left) (c .before .before .before .next-state .ensures) (c .before .before .judge-state .ensures) (c .before .is-done .ensures) (c .if2 .taken)
 
 returns-3 : tie.Need-returns-3 Inv-loop μ-loop
 returns-3 c =
-    let a = c .before .before .before .before in
+    let a = c .before .before .before .before .before in
     let v = a .before .before in
     let e = v .before .before in
     let l = e .before .before in
-    refused _ _ _ _ _ _ _ (l .loop .inv) (e .before .loop-test .taken) (v .event .given .0 .0) (sym (e .event-at .ensures) ∙ v .event .given .1) (a .asks .ensures) (c .before .before .before .if1 .left) (c .before .before .change .ensures) (c .before .is-done .ensures) (c .if2 .left)
+    refused _ _ _ _ _ _ _ _ (l .loop .inv) (e .before .loop-test .taken) (v .event .given .0 .0) (sym (e .event-at .ensures) ∙ v .event .given .1) (a .asks .ensures) (c .before .before .before .before .if1 .left) (c .before .before .before .next-state .ensures) (c .before .before .judge-state .ensures) (c .before .is-done .ensures) (c .if2 .left)
 
 returns-4 : tie.Need-returns-4 Inv-loop μ-loop
-returns-4 c = at-end _ _ _ _ _ _ _ (c .before .loop .inv) (c .loop-test .left)
+returns-4 c = at-end _ _ _ _ _ _ _ _ (c .before .loop .inv) (c .loop-test .left)
 
 pub play-changes-spec : {M : Type 1} → statement M
 play-changes-spec =
@@ -101,7 +102,8 @@ play-changes-spec =
     returns
     asks-requires
     returns-2
-    change-requires
+    next-state-requires
+    judge-state-requires
     is-done-requires
     add-i
     loop-less

@@ -1,50 +1,109 @@
-use mathlib.Core.Path.{sym, _∙_}
-use borrow.Author.Needs.{needs}
+use mathlib.Core.Path.{sym, ap, _∙_}
+use Rattle.answers.specs.declared.Answer.{Answer}
+use Rattle.answers.specs.declared.Answer.the-variants.{Argument}
+use Rattle.answers.specs.Answers.{firstOf}
 use Rattle.answers.proofs.Laws.{done-is}
-use Rattle.run.proofs.Whole.{run-done, run-refused}
+use Rattle.run.proofs.Whole.{valid-judged, valid-fine, valid-done, run-refused, invalid-refused}
+use borrow.Author.Needs.{needs}
 use Rattle.run.proofs.run.Statement.{statement}
 use Rattle.run.proofs.run.Tie as tie
 
-judge-run-requires : tie.Need-judge-run-requires
-judge-run-requires c κs = search needs
+judge-lent-requires : tie.Need-judge-lent-requires
+judge-lent-requires c κs = search needs
 
-is-done-requires : tie.Need-is-done-requires
-is-done-requires c κs = search needs
+decode-requires : tie.Need-decode-requires
+decode-requires c κs = search needs
 
-play-block-requires : tie.Need-play-block-requires
-play-block-requires c κs = sym (c .before .before .before .before .judge-run .ensures) ∙ done-is _ (sym (c .before .before .before .is-done .ensures) ∙ c .before .before .if1 .taken)
+enum-known-from : tie.Need-enum-known-from
+enum-known-from c = search needs
 
-encode-requires : tie.Need-encode-requires
-encode-requires c κs = search needs
+enum-told : tie.Need-enum-told
+enum-told c = search needs
+
+first-requires : tie.Need-first-requires
+first-requires c κs = search needs
+
+turned-back-requires : tie.Need-turned-back-requires
+turned-back-requires c κs = search needs
 
 same-length : tie.Need-same-length
 same-length c = search needs
 
-same-length-2 : tie.Need-same-length-2
-same-length-2 c = search needs
-
 returns : tie.Need-returns
 returns c =
-    let p = c .before .before .before .before .before .before .before in
-    let j = p .before .before .before .before .before in
-    run-done _ _ _ _ _ (sym (j .judge-run .ensures) ∙ done-is _ (sym (p .before .before .before .before .is-done .ensures) ∙ p .before .before .before .if1 .taken)) (p .play-block .ensures .0) (p .play-block .ensures .1) (c .before .before .encode .ensures)
+    let lent = c .before .before .before .before .before .before .judge-lent .ensures in
+    rw (c .turned-back .ensures) (invalid-refused _ _ _ _ _ (c .before .before .before .before .decode .ensures) (c .before .before .enum-told .given .1) (c .before .first .ensures ∙ ap (λ (l : Answer). firstOf l Argument) lent))
+
+judge-script-requires : tie.Need-judge-script-requires
+judge-script-requires c κs = search needs
+
+first-requires-2 : tie.Need-first-requires-2
+first-requires-2 c κs = search needs
+
+is-done-requires : tie.Need-is-done-requires
+is-done-requires c κs = search needs
+
+play-from-requires : tie.Need-play-from-requires
+play-from-requires c κs =
+    let j = c .before .before .before in
+    let v = j .before .before .before in
+    let d = v .before .before in
+    let is = simp (d .before .before .judge-lent .ensures, j .before .judge-script .ensures) at (j .first2 .ensures) in
+    valid-fine _ _ _ _ _ (d .decode .ensures) (v .from .given .1) _ is (done-is _ (sym (c .before .before .is-done .ensures) ∙ c .before .if1 .taken))
+
+encode-requires : tie.Need-encode-requires
+encode-requires c κs = search needs
+
+same-length-2 : tie.Need-same-length-2
+same-length-2 c = search needs
 
 same-length-3 : tie.Need-same-length-3
 same-length-3 c = search needs
 
 returns-2 : tie.Need-returns-2
-returns-2 c = run-refused _ _ _ _ _ (c .before .before .judge-run .ensures) (sym (c .before .is-done .ensures) ∙ c .if1 .left)
+returns-2 c =
+    let p = c .before .before .before .before .before .before .before in
+    let j = p .before .before .before .before in
+    let v = j .before .before .before in
+    let d = v .before .before in
+    let is = simp (d .before .before .judge-lent .ensures, j .before .judge-script .ensures) at (j .first2 .ensures) in
+    let done = done-is _ (sym (p .before .before .before .is-done .ensures) ∙ p .before .before .if1 .taken) in
+    valid-done _ _ _ _ _ (d .decode .ensures) (v .from .given .1) _ is done (p .play-from .ensures .0) (p .play-from .ensures .1) (c .before .before .encode .ensures)
+
+turned-back-requires-2 : tie.Need-turned-back-requires-2
+turned-back-requires-2 c κs = search needs
+
+same-length-4 : tie.Need-same-length-4
+same-length-4 c = search needs
+
+returns-3 : tie.Need-returns-3
+returns-3 c =
+    let j = c .before .before .before in
+    let v = j .before .before .before in
+    let d = v .before .before in
+    let is = simp (d .before .before .judge-lent .ensures, j .before .judge-script .ensures) at (j .first2 .ensures) in
+    rw (c .turned-back2 .ensures) (run-refused _ _ _ _ _ (valid-judged _ _ _ _ _ (d .decode .ensures) (v .from .given .1) _ is) (sym (c .before .before .is-done .ensures) ∙ c .before .if1 .left))
 
 pub run-spec : {M : Type 1} → statement M
 run-spec =
     tie.close
     (tie.spec
-    judge-run-requires
-    is-done-requires
-    play-block-requires
-    encode-requires
+    judge-lent-requires
+    decode-requires
+    enum-known-from
+    enum-told
+    first-requires
+    turned-back-requires
     same-length
-    same-length-2
     returns
+    judge-script-requires
+    first-requires-2
+    is-done-requires
+    play-from-requires
+    encode-requires
+    same-length-2
     same-length-3
-    returns-2)
+    returns-2
+    turned-back-requires-2
+    same-length-4
+    returns-3)
