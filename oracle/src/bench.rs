@@ -1,5 +1,6 @@
-//! The library's calls beside the Rust: opening a bundle beside a plain scan of the same bytes, building the curves beside the Rust's calls,
-//! and running scripts beside the Rust's filter doing the same events. Each time is the best of 15; both sides are optimised builds, called by turns on the same bytes.
+//! The library's calls beside the Rust, in paired rounds: in each round the Rust and then the library do the same work on the same buffers, which were touched
+//! before. A row has the median of the rounds' ratios, the ratios that a tenth of the rounds lie below and above, and the time of each side that a tenth of its rounds
+//! lie below. A word as argument leaves the rows whose name has it.
 
 #![allow(dead_code)]
 
@@ -9,6 +10,7 @@ mod kept;
 mod numbers;
 mod surface;
 
+use std::cell::RefCell;
 use std::hint::black_box;
 use std::time::Instant;
 
@@ -20,22 +22,40 @@ use response::volume_dac_conductance_code;
 use surface::proved;
 use tables::AnalogueTransferSurface;
 
-/// The best of 15 runs of each, by turns, in microseconds.
-fn best<const N: usize>(mut runs: [&mut dyn FnMut(); N]) -> [f64; N] {
-    let mut best = [f64::MAX; N];
-    for _ in 0..15 {
-        for (run, best) in runs.iter_mut().zip(&mut best) {
-            let start = Instant::now();
-            run();
-            *best = best.min(start.elapsed().as_secs_f64() * 1e6);
-        }
-    }
-    best
+/// A round is short, so that what else the machine does meets both sides of it.
+const EVENTS: usize = 8_192;
+const ROUNDS: usize = 1_500;
+
+// ---- rounds
+
+/// The time of a call in nanoseconds.
+fn time(work: &mut dyn FnMut()) -> f64 {
+    let start = Instant::now();
+    work();
+    start.elapsed().as_secs_f64() * 1e9
 }
 
-fn line(name: &str, ours: f64, beside: &str, theirs: f64) {
-    println!("{name}: {ours:.1} us, {beside}: {theirs:.1} us, ratio {:.2}", ours / theirs);
+/// What a share of some numbers lies below.
+fn below(share: f64, numbers: &mut [f64]) -> f64 {
+    numbers.sort_unstable_by(f64::total_cmp);
+    numbers[(share * (numbers.len() - 1) as f64).round() as usize]
 }
+
+/// A row of the table: the Rust's time by the library's, round by round, and the times of one of so many `parts`.
+fn row(name: &str, parts: usize, rust: &mut dyn FnMut(), library: &mut dyn FnMut()) {
+    if std::env::args().nth(1).is_some_and(|word| !name.contains(&word)) {
+        return;
+    }
+    rust();
+    library();
+    let (mut theirs, mut ours): (Vec<f64>, Vec<f64>) = (0..ROUNDS).map(|_| (time(rust), time(library))).unzip();
+    let mut ratios: Vec<f64> = theirs.iter().zip(&ours).map(|(rust, library)| rust / library).collect();
+    let [low, middle, high] = [0.1, 0.5, 0.9].map(|share| below(share, &mut ratios));
+    let [rust, library] = [&mut theirs, &mut ours].map(|times| below(0.1, times) / parts as f64);
+    println!("| {name} | {middle:.3} | {low:.2} to {high:.2} | {rust:.1} ns | {library:.1} ns |");
+}
+
+// ---- opening and building
 
 /// The first unusable one of some entries, an entry at a time.
 fn scan(entries: &[u8]) -> Option<usize> {
@@ -59,34 +79,85 @@ fn load_curve(surface: &AnalogueTransferSurface, load: f32) -> Box<[f32; 2049]> 
     surface.build_load_curve(AnalogueTransferSurface::load_position(load))
 }
 
-// ---- runs
-
-/// A script of 65,536 events: samples, of which one in so many is a write of any register; 0 for none, 1 for writes only.
-fn script(every: usize, random: &mut Random) -> Vec<u8> {
-    let mut script = [65_536u32, 8].map(u32::to_le_bytes).concat();
-    for number in 0..65_536 {
-        let bits = random.bits();
-        if every != 0 && number % every == every - 1 {
-            script.extend([(bits % 4) as u8, (bits >> 8) as u8, 0, 0, 0, 0, 0, 0, 0, 0, 0, 0]);
-        } else {
-            let time = number as f32;
-            let noise = (bits >> 16) as u16 as f32 / 655_360.0;
-            let sum = 1.35 + 0.3 * (time * 0.013).sin() + 0.2 * (time * 0.0037).sin() + noise;
-            let energy = 0.5 + 0.4 * (time * 0.0011).cos();
-            script.extend([4, 0, 0, 0]);
-            script.extend([sum, energy].map(f32::to_le_bytes).as_flattened());
-        }
-    }
-    script
+/// The library has no Rust beside it that judges entries, so opening is set beside a plain scan, and building beside calls that take every entry as it is.
+fn tables(bundle: &[u8]) {
+    let surface = surface::surface_of(bundle);
+    let loads = loads();
+    let mut curves = vec![0; surface::CURVES_LENGTH];
+    row("opening, beside a plain scan", 1, &mut || _ = black_box(scan(black_box(&bundle[56..]))), &mut || {
+        _ = black_box(proved::open(black_box(bundle)))
+    });
+    let mut build = || _ = black_box(proved::build_curves(black_box(bundle), &mut curves));
+    row("building, beside the 31 calls", 1, &mut || drop(black_box(load_curves(&surface, black_box(&loads)))), &mut build);
+    let mut dropped = || loads.iter().for_each(|&load| drop(black_box(load_curve(&surface, black_box(load)))));
+    row("building, each box dropped at once", 1, &mut dropped, &mut build);
+    let entries = &bundle[2_105_464..3_293_304];
+    let mut checked = || {
+        black_box(scan(black_box(entries)));
+        drop(black_box(surface::curves_on(&surface)));
+    };
+    row("building, beside a scan and the calls", 1, &mut checked, &mut build);
 }
 
-/// Three voices in the filter, low and band together, at full volume.
-fn start(filter: &mut Filter) {
+// ---- runs
+
+/// The bytes of scripts of so many events each.
+fn scripts(length: usize, mut event: impl FnMut(usize) -> [u8; 12]) -> Vec<Vec<u8>> {
+    let script = |first: usize| {
+        let header = [length as u32, 8].map(u32::to_le_bytes).concat();
+        header.into_iter().chain((first..first + length).flat_map(&mut event)).collect()
+    };
+    (0..EVENTS).step_by(length).map(script).collect()
+}
+
+fn sample(sum: f32, energy: f32) -> [u8; 12] {
+    let mut event = [0; 12];
+    event[0] = 4;
+    event[4..8].copy_from_slice(&sum.to_le_bytes());
+    event[8..].copy_from_slice(&energy.to_le_bytes());
+    event
+}
+
+fn write(register: usize, value: u8) -> [u8; 12] {
+    [register as u8, value, 0, 0, 0, 0, 0, 0, 0, 0, 0, 0]
+}
+
+/// Two slow waves, as three voices at their levels make them.
+fn waves(time: f32) -> f32 {
+    1.35 + 0.3 * (time * 0.013).sin() + 0.2 * (time * 0.0037).sin()
+}
+
+fn energy(time: f32) -> f32 {
+    0.5 + 0.4 * (time * 0.0011).cos()
+}
+
+/// A sample of two waves and noise.
+fn noise(number: usize, bits: u64) -> [u8; 12] {
+    let time = number as f32;
+    sample(waves(time) + (bits >> 48) as f32 / 655_360.0, energy(time))
+}
+
+/// Cutoff and resonance in the middle, three voices in the filter, low and band together, full volume.
+const REGISTERS: [u8; 4] = [5, 0x60, 0x87, 0x3f];
+
+/// Routing with the same resonance and no voice in the filter.
+const NOTHING_ROUTED: [u8; 12] = [2, 0x80, 0, 0, 0, 0, 0, 0, 0, 0, 0, 0];
+
+/// One of these registers again, or any register and any value.
+fn fixed(number: usize, _: u64) -> [u8; 12] {
+    write(number % 4, REGISTERS[number % 4])
+}
+
+fn any(_: usize, bits: u64) -> [u8; 12] {
+    write((bits % 4) as usize, (bits >> 8) as u8)
+}
+
+/// The state that some events lead to from the starting value.
+fn start(filter: &mut Filter, events: &[[u8; 12]]) {
     filter.reset();
-    filter.write_cutoff_low(5);
-    filter.write_cutoff_high(0x60);
-    filter.write_signal_routing(0x87);
-    filter.write_mode_and_volume(0x3f);
+    for event in events {
+        play(filter, event);
+    }
 }
 
 /// The events on the Rust's filter, the samples written as a run writes them.
@@ -101,63 +172,66 @@ fn play_all(filter: &mut Filter, script: &[u8], output: &mut [u8]) {
     }
 }
 
-fn runs(bundle: &[u8], curves: &[u8]) {
-    let (mut filter, mut random) = (Filter::new(), Random(7));
-    for (name, every) in [("samples only", 0), ("one write in 16", 16), ("writes only", 1)] {
-        let script = script(every, &mut random);
-        let samples = script[8..].chunks_exact(12).filter(|event| event[0] == 4).count();
-        let (mut ours, mut theirs) = (vec![0; 16 * samples], vec![0; 16 * samples]);
-        start(&mut filter);
-        let begin = filter_block(&mut filter);
-        let mut state = begin;
-        let answer = proved::run(bundle, curves, &mut state, &script, &mut ours);
-        play_all(&mut filter, &script, &mut theirs);
-        assert_eq!((answer.number, answer.events, answer.samples as usize), (0, 65_536, samples), "{name}");
-        assert!(ours == theirs && state == filter_block(&mut filter), "{name}: samples or state differ");
-        let [library, rust] = best([
-            &mut || {
-                state = begin;
-                _ = black_box(proved::run(black_box(bundle), black_box(curves), &mut state, black_box(&script), black_box(&mut ours)));
-            },
-            &mut || {
-                start(&mut filter);
-                play_all(&mut filter, black_box(&script), black_box(&mut theirs));
-            },
-        ]);
-        let each = 1_000.0 / 65_536.0;
-        let (ours, theirs) = (library * each, rust * each);
-        println!("run, {name}: {ours:.1} ns an event, the Rust's filter {theirs:.1} ns, Rust / library {:.2}", rust / library);
+/// A row of the table for scripts that are run one after the other from where some events led, after one pass in which both sides gave the same bytes.
+fn run(name: &str, lent: (&[u8], &[u8]), filter: &mut Filter, events: &[[u8; 12]], scripts: &[Vec<u8>]) {
+    let (bundle, curves) = lent;
+    let room = scripts.iter().map(|script| script[8..].chunks_exact(12).filter(|event| event[0] == 4).count()).max();
+    let mut output = vec![0; 16 * room.expect("a script")];
+    let mut beside = output.clone();
+    start(filter, events);
+    let begin = filter_block(filter);
+    let mut state = begin;
+    for script in scripts {
+        let answer = proved::run(bundle, curves, &mut state, script, &mut output);
+        play_all(filter, script, &mut beside);
+        let all = (answer.number, 12 * answer.events as usize + 8) == (0, script.len());
+        assert!(all && output == beside && state == filter_block(filter), "{name}: the two differ");
     }
+    let output = RefCell::new(output);
+    let mut rust = || {
+        start(filter, events);
+        scripts.iter().for_each(|script| play_all(filter, black_box(script), black_box(&mut output.borrow_mut())));
+    };
+    let mut library = || {
+        state = begin;
+        for script in scripts {
+            let output = &mut output.borrow_mut();
+            _ = black_box(proved::run(black_box(bundle), black_box(curves), &mut state, black_box(script), black_box(output)));
+        }
+    };
+    row(name, EVENTS, &mut rust, &mut library);
 }
 
 fn main() {
     let bundle = surface::data("bundle");
-    let surface = surface::surface_of(&bundle);
-    let loads = loads();
     let mut curves = vec![0; surface::CURVES_LENGTH];
-    let mut left = curves.clone();
-    let entries = 2_105_464..3_293_304;
-    // A bundle whose last surface entry is an infinity: building it is the check alone.
-    let mut refused = bundle.clone();
-    refused[3_293_300..3_293_304].copy_from_slice(&f32::INFINITY.to_le_bytes());
-
-    let [open, plain] =
-        best([&mut || _ = black_box(proved::open(black_box(&bundle))), &mut || _ = black_box(scan(black_box(&bundle[56..])))]);
-    line("open", open, "a plain scan of the entries", plain);
-
-    let [build, check, held, dropped, checked] = best([
-        &mut || _ = black_box(proved::build_curves(black_box(&bundle), &mut curves)),
-        &mut || _ = black_box(proved::build_curves(black_box(&refused), &mut left)),
-        &mut || drop(black_box(load_curves(black_box(&surface), black_box(&loads)))),
-        &mut || loads.iter().for_each(|&load| drop(black_box(load_curve(black_box(&surface), black_box(load))))),
-        &mut || {
-            black_box(scan(black_box(&bundle[entries.clone()])));
-            drop(black_box(surface::curves_on(black_box(&surface))));
-        },
-    ]);
-    line("build_curves", build, "the Rust's 31 build_load_curve calls", held);
-    line("build_curves", build, "the same, each box dropped before the next", dropped);
-    line("build_curves", build, "a plain scan of the surface, the calls and the volume's steps", checked);
-    println!("build_curves, the check of the surface alone: {check:.1} us");
-    runs(&bundle, &curves);
+    assert_eq!(proved::build_curves(&bundle, &mut curves).number, 0);
+    let lent = (&bundle[..], &curves[..]);
+    let (mut filter, mut random) = (Filter::new(), Random(7));
+    let mut mixed = |every: usize, write: fn(usize, u64) -> [u8; 12]| {
+        scripts(EVENTS, |number| {
+            let bits = random.bits();
+            if number % every == every - 1 {
+                write(number / every, bits)
+            } else {
+                noise(number, bits)
+            }
+        })
+    };
+    let full: Vec<_> = (0..4).map(|number| fixed(number, 0)).collect();
+    let idle = [&full[..], &[NOTHING_ROUTED]].concat();
+    let ringing = [&full[..], &(0..512).map(|number| noise(number, 0)).collect::<Vec<_>>(), &[NOTHING_ROUTED]].concat();
+    let quiet = scripts(EVENTS, |number| sample(0.0, energy(number as f32)));
+    println!("| {EVENTS} events | Rust time / library time | a tenth below, above | Rust | library |\n|---|---|---|---|---|");
+    run("samples of noise", lent, &mut filter, &full, &mixed(EVENTS + 1, fixed));
+    run("samples of a sine", lent, &mut filter, &full, &scripts(EVENTS, |number| sample(waves(number as f32), energy(number as f32))));
+    run("one write in 16, fixed values", lent, &mut filter, &full, &mixed(16, fixed));
+    run("one write in 16, any values", lent, &mut filter, &full, &mixed(16, any));
+    run("writes, fixed values", lent, &mut filter, &full, &mixed(1, fixed));
+    run("writes, any values", lent, &mut filter, &full, &mixed(1, any));
+    run("idle samples", lent, &mut filter, &idle, &quiet);
+    run("samples, nothing routed any more", lent, &mut filter, &ringing, &quiet);
+    let short = scripts(16, |number| noise(number, number as u64 * 0x9e37_79b9_7f4a_7c15));
+    run("scripts of 16 samples", lent, &mut filter, &full, &short);
+    tables(&bundle);
 }
