@@ -37,8 +37,8 @@ refusalOf answer = decimalOf (numberOf answer) ++ ascii ", " ++ wordsOf answer
 
 -- `song.scr: done, 5460 events, 5000 samples`, or
 -- `song.scr: stopped after 17 events, 12 samples: 5, the input sum or the source energy is not finite`, and a line end.
-unfoldable pub lineOf : List ℕ → Answer → ℕ → ℕ → List ℕ
-lineOf name answer events samples =
+unfoldable pub scriptLineOf : List ℕ → Answer → ℕ → ℕ → List ℕ
+scriptLineOf name answer events samples =
     cond (isDoneOf answer)
     (name ++ ascii ": done, " ++ countsOf events samples ++ ascii "\n")
     (name ++ ascii ": stopped after " ++ countsOf events samples ++ ascii ": " ++ refusalOf answer ++ ascii "\n")

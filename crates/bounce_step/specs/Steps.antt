@@ -4,7 +4,7 @@ use mathlib.Core.List.{List}
 use lib.ListN.{take}
 use Rattle.answers.specs.Answers.{numberOf}
 use Rattle.run.specs.Run.{Run, runOf}
-use Rattle.bounce_step.specs.Lines.{lineOf}
+use Rattle.bounce_step.specs.Lines.{scriptLineOf}
 
 pub record Step : Type 0 where
   pub number : ℕ
@@ -18,7 +18,7 @@ toldOf name r =
       number = numberOf (r .answer);
       state = r .state;
       samples = take (16 * r .samples) (r .output);
-      line = lineOf name (r .answer) (r .events) (r .samples);
+      line = scriptLineOf name (r .answer) (r .events) (r .samples);
     }
 
 -- The script of a name is run from the state that the last one left, with room for its samples.

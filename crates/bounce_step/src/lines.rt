@@ -4,7 +4,7 @@ ghost use Prim.Native.Nat.{_≤_};
 ghost use lib.ListN.{length, take};
 ghost use Rattle.io.specs.Counts.{Counts};
 ghost use Rattle.bounce_step.specs.Text.{grown};
-ghost use Rattle.bounce_step.specs.Lines.{placedOf, wordsOf, countsOf, refusalOf, lineOf};
+ghost use Rattle.bounce_step.specs.Lines.{placedOf, wordsOf, countsOf, refusalOf, scriptLineOf};
 use crate::text::push;
 use crate::text::push_number;
 use answers::Answer;
@@ -83,7 +83,7 @@ fn push_refusal(out: &mut [u8], at: usize, answer: Answer) -> usize
 // The line of a script, from the buffer's start. Answers where it ends.
 pub fn line(out: &mut [u8], name: &[u8], answer: Answer, events: usize, samples: usize) -> usize
     ensures { λ r. ⌜ Counts r (now (out .exit)) ⌝ }
-    ensures { λ r. ⌜ take r (now (out .exit)) ≡ grown (now (out .entry)) 0 (lineOf (now (name .entry)) answer events samples) ⌝ }
+    ensures { λ r. ⌜ take r (now (out .exit)) ≡ grown (now (out .entry)) 0 (scriptLineOf (now (name .entry)) answer events samples) ⌝ }
 {
     let n = push(out, 0, name);
     if answers::is_done(answer) {

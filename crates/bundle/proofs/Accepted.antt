@@ -13,7 +13,7 @@ use Rattle.answers.specs.declared.Answer.the-variants.{Done, BundleLength, Head
 use Rattle.answers.specs.Answers.{unlessOf}
 use Rattle.answers.proofs.Laws.{first-done, unless-done}
 use Rattle.wire.specs.Wire.{bytesOf, usableAt}
-use Rattle.wire.specs.First.{firstUnusable}
+use Rattle.wire.specs.First.{firstUnusableOf}
 use Rattle.wire.proofs.First.{first-before, first-is, none-unusable, all-usable}
 use Rattle.bundle.specs.Layout.{Section, sections, everyEntry, analogueSurface, bundleLength, words, header, entryPlace}
 use Rattle.bundle.specs.Opening.{headerByte, firstDifference, checkOf, judgeSectionOf, openOf, Accepted}
@@ -50,7 +50,7 @@ module _ (bundle : List ℕ) where
 
 module _ (bundle : List ℕ) (section : Section) where
   abbrev index : ℕ
-  index = firstUnusable bundle (section .offset) (section .count)
+  index = firstUnusableOf bundle (section .offset) (section .count)
 
   pub section-done : judgeSectionOf bundle section ≡ Done → (k : ℕ) → k < section .count → usableAt bundle (entryPlace section k) ≡ true
   unfolding judgeSectionOf

@@ -12,7 +12,7 @@ use Rattle.answers.specs.declared.Answer.{Answer}
 use Rattle.answers.specs.declared.Answer.the-variants.{Done, BundleLength, Header, Entry}
 use Rattle.answers.specs.Answers.{firstOf, unlessOf}
 use Rattle.wire.specs.Wire.{byteAt, f32At, usableAt}
-use Rattle.wire.specs.First.{first, firstUnusable}
+use Rattle.wire.specs.First.{first, firstUnusableOf}
 use Rattle.bundle.specs.Layout.{Section, everyEntry, bundleLength, header, entryPlace}
 
 -- The float of the entry at a place. One that is unusable reads as the float that it is, and one past the end as 0.
@@ -44,7 +44,7 @@ judgePlacesOf buffer bytes (place ∷ rest) = cond (usableAt bytes place) (judge
 -- The first unusable entry of a section of the bundle.
 unfoldable pub judgeSectionOf : List ℕ → Section → Answer
 judgeSectionOf bundle section =
-    let index = firstUnusable bundle (section .offset) (section .count) in
+    let index = firstUnusableOf bundle (section .offset) (section .count) in
     unlessOf (leb (section .count) index) (Entry Bundle (entryPlace section index))
 
 -- ---- opening

@@ -5,7 +5,7 @@ use Prim.Native.Nat.{ℕ, zero, suc, _≤_}
 use native.Mathlib.Omega.{arith}
 use lib.ListN.{length, getD, List·getD-eq-default}
 use lib.Ieee.{Float, nan, binary32, ofBits, div}
-use Rattle.constants.specs.Tables.{NoneOf, InRows, entryAt}
+use Rattle.constants.specs.Tables.{NoneOf, InRows, rowEntry}
 
 -- The code's NaN, 0.0 / 0.0.
 abbrev zero-over-zero : Float
@@ -21,7 +21,7 @@ none-of-past (suc n) i w =
     let before = none-of-past n i (w .0) in
     omega (arith, before, w .1)
 
-pub past-rows : (k : ℕ) (t : List (List Float)) → length t ≡ k → (m i : ℕ) → NoneOf k m → zero-over-zero ≡ entryAt t m i
+pub past-rows : (k : ℕ) (t : List (List Float)) → length t ≡ k → (m i : ℕ) → NoneOf k m → zero-over-zero ≡ rowEntry t m i
 past-rows k t w m i h = rw (zero-over-zero-nan, List·getD-eq-default t [] {n = m} (rw w (none-of-past k m h))) refl
 
 -- Every row has n entries.
@@ -29,7 +29,7 @@ abbrev pub Rows : ℕ → List (List Float) → Type 0
 Rows n [] = Unit {0}
 Rows n (r ∷ rs) = (length r ≡ n) × Rows n rs
 
-past-entries : (n : ℕ) (t : List (List Float)) → Rows n t → (m i : ℕ) → n ≤ i → zero-over-zero ≡ entryAt t m i
+past-entries : (n : ℕ) (t : List (List Float)) → Rows n t → (m i : ℕ) → n ≤ i → zero-over-zero ≡ rowEntry t m i
 past-entries n [] w m i h = zero-over-zero-nan
 past-entries n (r ∷ rs) w zero i h = zero-over-zero-nan ∙ sym (List·getD-eq-default r nan (rw (w .0) h))
 past-entries n (r ∷ rs) w (suc m) i h = past-entries n rs (w .1) m i h

@@ -7,8 +7,8 @@ use lib.Ieee.{Float, nan}
 use Rattle.constants.specs.Values as K
 
 -- Entry i of row m, and NaN past the table.
-abbrev pub entryAt : List (List Float) → ℕ → ℕ → Float
-entryAt table m i = getD (getD table m []) i nan
+abbrev pub rowEntry : List (List Float) → ℕ → ℕ → Float
+rowEntry table m i = getD (getD table m []) i nan
 
 -- i is none of the n numbers from 0 on, as the last arm of a `match` over them has it.
 abbrev pub NoneOf : ℕ → ℕ → Type 0
@@ -17,13 +17,13 @@ NoneOf (suc n) i = NoneOf n i × (i ≡ n → ⊥)
 
 -- x is entry i of each row.
 abbrev pub InRows : List (List Float) → ℕ → Float → Type 0
-InRows table i x = (x ≡ entryAt table 0 i) × (x ≡ entryAt table 1 i) × (x ≡ entryAt table 2 i)
+InRows table i x = (x ≡ rowEntry table 0 i) × (x ≡ rowEntry table 1 i) × (x ≡ rowEntry table 2 i)
 
 unfoldable pub singleModeCutoffGainOf : ℕ → ℕ → Float
-singleModeCutoffGainOf m i = entryAt K.FILTER-SINGLE-MODE-CUTOFF-GAIN m i
+singleModeCutoffGainOf m i = rowEntry K.FILTER-SINGLE-MODE-CUTOFF-GAIN m i
 
 unfoldable pub singleModeResonanceGainOf : ℕ → ℕ → Float
-singleModeResonanceGainOf m i = entryAt K.FILTER-SINGLE-MODE-RESONANCE-GAIN m i
+singleModeResonanceGainOf m i = rowEntry K.FILTER-SINGLE-MODE-RESONANCE-GAIN m i
 
 unfoldable pub symmetricLoadingGainOf : ℕ → ℕ → Float
-symmetricLoadingGainOf m i = entryAt K.FILTER-SYMMETRIC-LOADING-GAIN m i
+symmetricLoadingGainOf m i = rowEntry K.FILTER-SYMMETRIC-LOADING-GAIN m i

@@ -1,7 +1,7 @@
 // The filter's numbers, from constants.rs, with the Rust's names, digits and order. The functions at the end tie each to its bits in specs/.
 ghost use mathlib.Core.Path.{_≡_};
 ghost use Rattle.constants.specs.Values as K;
-ghost use Rattle.constants.specs.Tables.{NoneOf, InRows, entryAt, singleModeCutoffGainOf, singleModeResonanceGainOf, symmetricLoadingGainOf};
+ghost use Rattle.constants.specs.Tables.{NoneOf, InRows, rowEntry, singleModeCutoffGainOf, singleModeResonanceGainOf, symmetricLoadingGainOf};
 
 // The cutoff DAC's ladder: the ratio of its 2R to its R resistors, and the level of a bit that is off.
 pub const SID_FILTER_DAC_TWO_R_OVER_R: f64 = 1.879;
@@ -130,7 +130,7 @@ fn past_resonance_rows(i: usize) -> f32
 
 // The load on the output of a mode that is on alone, a row each for low, band and high: over the cutoff, and over the resonance.
 fn single_mode_cutoff_gain_low(i: usize) -> f32
-    ensures { λ r. ⌜ r ≡ entryAt K.FILTER-SINGLE-MODE-CUTOFF-GAIN 0 i ⌝ }
+    ensures { λ r. ⌜ r ≡ rowEntry K.FILTER-SINGLE-MODE-CUTOFF-GAIN 0 i ⌝ }
 {
     match i {
         0 => 1.0,
@@ -170,7 +170,7 @@ fn single_mode_cutoff_gain_low(i: usize) -> f32
 }
 
 fn single_mode_cutoff_gain_band(i: usize) -> f32
-    ensures { λ r. ⌜ r ≡ entryAt K.FILTER-SINGLE-MODE-CUTOFF-GAIN 1 i ⌝ }
+    ensures { λ r. ⌜ r ≡ rowEntry K.FILTER-SINGLE-MODE-CUTOFF-GAIN 1 i ⌝ }
 {
     match i {
         0 => 0.89093639,
@@ -210,7 +210,7 @@ fn single_mode_cutoff_gain_band(i: usize) -> f32
 }
 
 fn single_mode_cutoff_gain_high(i: usize) -> f32
-    ensures { λ r. ⌜ r ≡ entryAt K.FILTER-SINGLE-MODE-CUTOFF-GAIN 2 i ⌝ }
+    ensures { λ r. ⌜ r ≡ rowEntry K.FILTER-SINGLE-MODE-CUTOFF-GAIN 2 i ⌝ }
 {
     match i {
         0 => 1.31723193,
@@ -250,7 +250,7 @@ fn single_mode_cutoff_gain_high(i: usize) -> f32
 }
 
 fn single_mode_resonance_gain_low(i: usize) -> f32
-    ensures { λ r. ⌜ r ≡ entryAt K.FILTER-SINGLE-MODE-RESONANCE-GAIN 0 i ⌝ }
+    ensures { λ r. ⌜ r ≡ rowEntry K.FILTER-SINGLE-MODE-RESONANCE-GAIN 0 i ⌝ }
 {
     match i {
         0 => 1.00630351,
@@ -274,7 +274,7 @@ fn single_mode_resonance_gain_low(i: usize) -> f32
 }
 
 fn single_mode_resonance_gain_band(i: usize) -> f32
-    ensures { λ r. ⌜ r ≡ entryAt K.FILTER-SINGLE-MODE-RESONANCE-GAIN 1 i ⌝ }
+    ensures { λ r. ⌜ r ≡ rowEntry K.FILTER-SINGLE-MODE-RESONANCE-GAIN 1 i ⌝ }
 {
     match i {
         0 => 1.05848653,
@@ -298,7 +298,7 @@ fn single_mode_resonance_gain_band(i: usize) -> f32
 }
 
 fn single_mode_resonance_gain_high(i: usize) -> f32
-    ensures { λ r. ⌜ r ≡ entryAt K.FILTER-SINGLE-MODE-RESONANCE-GAIN 2 i ⌝ }
+    ensures { λ r. ⌜ r ≡ rowEntry K.FILTER-SINGLE-MODE-RESONANCE-GAIN 2 i ⌝ }
 {
     match i {
         0 => 0.99266444,
@@ -323,7 +323,7 @@ fn single_mode_resonance_gain_high(i: usize) -> f32
 
 // The same rows for a moving cutoff: the part of the gain that does not depend on the step's direction. (The other part is in the bundle.)
 fn symmetric_loading_gain_low(i: usize) -> f32
-    ensures { λ r. ⌜ r ≡ entryAt K.FILTER-SYMMETRIC-LOADING-GAIN 0 i ⌝ }
+    ensures { λ r. ⌜ r ≡ rowEntry K.FILTER-SYMMETRIC-LOADING-GAIN 0 i ⌝ }
 {
     match i {
         0 => 1.00000000,
@@ -363,7 +363,7 @@ fn symmetric_loading_gain_low(i: usize) -> f32
 }
 
 fn symmetric_loading_gain_band(i: usize) -> f32
-    ensures { λ r. ⌜ r ≡ entryAt K.FILTER-SYMMETRIC-LOADING-GAIN 1 i ⌝ }
+    ensures { λ r. ⌜ r ≡ rowEntry K.FILTER-SYMMETRIC-LOADING-GAIN 1 i ⌝ }
 {
     match i {
         0 => 1.09330756,
@@ -403,7 +403,7 @@ fn symmetric_loading_gain_band(i: usize) -> f32
 }
 
 fn symmetric_loading_gain_high(i: usize) -> f32
-    ensures { λ r. ⌜ r ≡ entryAt K.FILTER-SYMMETRIC-LOADING-GAIN 2 i ⌝ }
+    ensures { λ r. ⌜ r ≡ rowEntry K.FILTER-SYMMETRIC-LOADING-GAIN 2 i ⌝ }
 {
     match i {
         0 => 0.91209361,

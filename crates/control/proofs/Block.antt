@@ -12,7 +12,7 @@ use borrow.Author.Tests.{eq-eqb, ne-eqb}
 use Rattle.wire.specs.Wire.{byteAt, bytesOf, putAt}
 use Rattle.wire.proofs.Laws.{putAt-whole}
 use Rattle.control.specs.declared.State.{State}
-use Rattle.control.specs.declared.Decoded.the-variants.{Valid, Invalid}
+use Rattle.control.specs.declared.DecodedState.the-variants.{Valid, Invalid}
 use Rattle.control.specs.Block.{validOf, blockOf, fieldsOf, decodeOf, encodeOf}
 
 pub block-long : (s : State) → length (blockOf s) ≡ 24

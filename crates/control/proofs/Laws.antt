@@ -14,7 +14,7 @@ use borrow.Author.Tests.{ltb-false}
 use lib.Ieee.{Float, binary32, ofInt, toSigned, mul, neg}
 use Rattle.floats.specs.Floats.{roundOf, clampOf}
 use Rattle.constants.specs.Values.{FILTER-CUTOFF-STEP-CHARGE-GAIN}
-use Rattle.control.specs.Registers.{field, cutoffOf, fcHigh, cutoffLow, stepOf, displacementOf, displacedOf}
+use Rattle.control.specs.Registers.{field, cutoffOf, fcHigh, cutoffLow, stepBetweenOf, displacementOf, displacedOf}
 
 -- ---- the fields of a register
 
@@ -59,8 +59,8 @@ module _ (a b : ℕ) (fa : Fits w16 a) (fb : Fits w16 b) where
   pub step-fits : SFits w32 (toZ w32 a -ℤ toZ w32 b)
   step-fits = rw codes (record { sfits = omega (arith, mag-sum a (negℤ (pos b)), mag-neg b, fa .fits, fb .fits) })
 
-  pub step-is : toZ w32 (ofZ w32 (toZ w32 a -ℤ toZ w32 b)) ≡ stepOf b a
-  unfolding stepOf
+  pub step-is : toZ w32 (ofZ w32 (toZ w32 a -ℤ toZ w32 b)) ≡ stepBetweenOf b a
+  unfolding stepBetweenOf
   step-is = toZ-ofZ w32 (toZ w32 a -ℤ toZ w32 b) step-fits ∙ codes
 
 -- a code and a displacement

@@ -23,24 +23,24 @@ use Rattle.wire.proofs.Signed.{bytesOf-i16At}
 use Rattle.wire.proofs.Floats.{finiteBits-is, finite-no-nan, floatBytes-f32At}
 use Rattle.integrator.specs.declared.IntegratorState.{IntegratorState}
 use Rattle.control.specs.declared.State.{State}
-use Rattle.control.specs.declared.Decoded.the-variants.{Valid, Invalid}
-use Rattle.control.specs.Block.{finiteF32, finiteFloats, validOf, blockOf, fieldsOf, decodeOf, encodeOf}
+use Rattle.control.specs.declared.DecodedState.the-variants.{Valid, Invalid}
+use Rattle.control.specs.Block.{finiteF32Of, finiteFloatsOf, validOf, blockOf, fieldsOf, decodeOf, encodeOf}
 use Rattle.control.proofs.Block.{block-long}
 use Rattle.control.proofs.Valid.{Within, valid-ranges, four, both}
 
 -- ---- the floats of a valid state
 
-module _ (i : IntegratorState) (h : finiteFloats i ≡ true) where
-  three : (true ≡ true) × (finiteF32 (i .«band_state») ≡ true) × (finiteF32 (i .«low_state») ≡ true) × (finiteF32 (i .«filter_source_energy») ≡ true)
-  unfolding finiteFloats
-  three = four true (finiteF32 (i .«band_state»)) (finiteF32 (i .«low_state»)) (finiteF32 (i .«filter_source_energy»)) h
+module _ (i : IntegratorState) (h : finiteFloatsOf i ≡ true) where
+  three : (true ≡ true) × (finiteF32Of (i .«band_state») ≡ true) × (finiteF32Of (i .«low_state») ≡ true) × (finiteF32Of (i .«filter_source_energy») ≡ true)
+  unfolding finiteFloatsOf
+  three = four true (finiteF32Of (i .«band_state»)) (finiteF32Of (i .«low_state»)) (finiteF32Of (i .«filter_source_energy»)) h
 
-f32-fits : (x : Float) → finiteF32 x ≡ true → T (fits binary32 x)
-unfolding finiteF32
+f32-fits : (x : Float) → finiteF32Of x ≡ true → T (fits binary32 x)
+unfolding finiteF32Of
 f32-fits x h = subst T (sym (both (fits binary32 x) (finite x) h .0)) tt
 
-f32-finite : (x : Float) → finiteF32 x ≡ true → finite x ≡ true
-unfolding finiteF32
+f32-finite : (x : Float) → finiteF32Of x ≡ true → finite x ≡ true
+unfolding finiteF32Of
 f32-finite x h = both (fits binary32 x) (finite x) h .1
 
 -- ---- from a state to its bytes and back
@@ -61,7 +61,7 @@ flag-le false = refl
 number : (n v : ℕ) → v < 256 ^ n → little (bytesOf n v) ≡ v
 number n v l = little-bytesOf n v ∙ mod-eq-of-lt l
 
-float : (x : Float) → finiteF32 x ≡ true → ofBits binary32 (little (floatBytes x)) ≡ x
+float : (x : Float) → finiteF32Of x ≡ true → ofBits binary32 (little (floatBytes x)) ≡ x
 float x h = let f = f32-fits x h in ap (ofBits binary32) (number 4 (toBits binary32 x) (toBits-lt binary32 x f)) ∙ ofBits-toBits binary32 x f
 
 pub fields-block : (s : State) → validOf s ≡ true → fieldsOf (blockOf s) ≡ s
@@ -137,7 +137,7 @@ six-bytes : (b : List ℕ) → 12 ≤ length b → byteAt b 11 ≡ 0 → byteAt 
 unfolding elements
 six-bytes b l z = ap (λ (n : ℕ). byteAt b 6 ∷ byteAt b 7 ∷ byteAt b 8 ∷ byteAt b 9 ∷ byteAt b 10 ∷ n ∷ []) (sym z) ∙ elements-part 6 b 6 l
 
-float-bytes : (b : List ℕ) (p : ℕ) → Bytes b → p + 4 ≤ length b → finiteF32 (f32At b p) ≡ true → floatBytes (f32At b p) ≡ take 4 (drop p b)
+float-bytes : (b : List ℕ) (p : ℕ) → Bytes b → p + 4 ≤ length b → finiteF32Of (f32At b p) ≡ true → floatBytes (f32At b p) ≡ take 4 (drop p b)
 float-bytes b p c l h = floatBytes-f32At b p c (finite-no-nan (u32At b p) (finiteBits-is (u32At b p) ∙ f32-finite (f32At b p) h)) l
 
 block-fields : (b : List ℕ) (s : State) → Bytes b → Decodes b s → blockOf (fieldsOf b) ≡ b

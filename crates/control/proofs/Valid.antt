@@ -15,7 +15,7 @@ use Rattle.floats.specs.Floats.{clampOf}
 use Rattle.integrator.specs.declared.IntegratorState.{IntegratorState}
 use Rattle.control.specs.declared.State.{State}
 use Rattle.control.specs.Registers.{displacementOf, displacedOf, effectiveCutoffOf, startingState, withCutoff, withNibbles, writeCutoffLowOf, writeCutoffHighOf, writeSignalRoutingOf, writeModeAndVolumeOf}
-use Rattle.control.specs.Block.{validRegisters, finiteF32, finiteFloats, validOf}
+use Rattle.control.specs.Block.{validRegistersOf, finiteF32Of, finiteFloatsOf, validOf}
 
 -- ---- the displacement
 
@@ -69,16 +69,16 @@ pub record Ranges (s : State) : Type 0 where
   pub routing : s .registers .routing ≤ 15
   pub mode : s .registers .mode ≤ 15
   pub volume : s .registers .volume ≤ 15
-  pub floats : finiteFloats (s .integrator) ≡ true
+  pub floats : finiteFloatsOf (s .integrator) ≡ true
 
 pub valid-ranges : (s : State) → validOf s ≡ true → Ranges s
-unfolding validOf validRegisters
+unfolding validOf validRegistersOf
 valid-ranges s v =
     let r = s .registers in
     let d = r .«cutoff_dac_displacement_codes» in
     let codes = leb (r .cutoff) 2047 && leb (r .«cutoff_write_base») 2047 && leZ (negsuc 56) d && leZ d (pos 57) in
     let nibbles = leb (r .resonance) 15 && leb (r .routing) 15 && leb (r .mode) 15 && leb (r .volume) 15 in
-    let w = both (codes && nibbles) (finiteFloats (s .integrator)) v in
+    let w = both (codes && nibbles) (finiteFloatsOf (s .integrator)) v in
     let h = both codes nibbles (w .0) in
     let c = four (leb (r .cutoff) 2047) (leb (r .«cutoff_write_base») 2047) (leZ (negsuc 56) d) (leZ d (pos 57)) (h .0) in
     let n = four (leb (r .resonance) 15) (leb (r .routing) 15) (leb (r .mode) 15) (leb (r .volume) 15) (h .1) in
@@ -94,13 +94,13 @@ valid-ranges s v =
     }
 
 pub ranges-valid : (s : State) → Ranges s → validOf s ≡ true
-unfolding validOf validRegisters
+unfolding validOf validRegistersOf
 ranges-valid s k =
     rw (le-leb _ _ (k .cutoff), le-leb _ _ (k .base), k .displacement .low, k .displacement .high, le-leb _ _ (k .resonance), le-leb _ _ (k .routing), le-leb _ _ (k .mode), le-leb _ _ (k .volume)) (k .floats)
 
 -- The starting value, which the reset gives.
 pub starting-valid : validOf startingState ≡ true
-unfolding validOf validRegisters finiteFloats finiteF32 ofBits fits
+unfolding validOf validRegistersOf finiteFloatsOf finiteF32Of ofBits fits
 starting-valid = refl
 
 -- A state stays valid with other cutoff fields, nibbles or floats that are in range.
@@ -136,9 +136,9 @@ module _ (s : State) (h : validOf s ≡ true) where
         floats = k .floats;
       })
 
-  pub floats-valid : (i : IntegratorState) → finiteFloats i ≡ true → validOf (record { registers = s .registers; integrator = i }) ≡ true
+  pub floats-valid : (i : IntegratorState) → finiteFloatsOf i ≡ true → validOf (record { registers = s .registers; integrator = i }) ≡ true
   unfolding validOf
-  floats-valid i f = rw (both (validRegisters (s .registers)) (finiteFloats (s .integrator)) h .0, f)
+  floats-valid i f = rw (both (validRegistersOf (s .registers)) (finiteFloatsOf (s .integrator)) h .0, f)
 
   -- ---- the writes, for every value
   module _ (v : ℕ) where
@@ -155,8 +155,8 @@ module _ (s : State) (h : validOf s ≡ true) where
     mode-valid = nibbles-valid _ _ _ _ (k .resonance) (k .routing) (omega arith) (omega arith)
 
 -- A finite f32, from what an operation's result is known to be.
-pub finite-f32 : (x : Float) → T (fits binary32 x) → finite x ≡ true → finiteF32 x ≡ true
-unfolding finiteF32
+pub finite-f32 : (x : Float) → T (fits binary32 x) → finite x ≡ true → finiteF32Of x ≡ true
+unfolding finiteF32Of
 finite-f32 x f h = rw (is-true (fits binary32 x) f, h)
 
 -- The effective cutoff is a code, of every state.

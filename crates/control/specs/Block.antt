@@ -14,28 +14,28 @@ use Rattle.wire.specs.Wire.{byteAt, u16At, i16At, f32At, bytesOf, floatBytes}
 use Rattle.integrator.specs.declared.IntegratorState.{IntegratorState}
 use Rattle.control.specs.declared.FilterRegisters.{FilterRegisters}
 use Rattle.control.specs.declared.State.{State}
-use Rattle.control.specs.declared.Decoded.{Decoded}
-use Rattle.control.specs.declared.Decoded.the-variants.{Valid, Invalid}
+use Rattle.control.specs.declared.DecodedState.{DecodedState}
+use Rattle.control.specs.declared.DecodedState.the-variants.{Valid, Invalid}
 
 -- ---- validity
 
 -- Cutoff and write base at most 2,047, displacement -57 to 57, the four nibbles at most 15. Pending is 0 or 1 by its type.
-unfoldable pub validRegisters : FilterRegisters → Bool
-validRegisters r =
+unfoldable pub validRegistersOf : FilterRegisters → Bool
+validRegistersOf r =
     (leb (r .cutoff) 2047 && leb (r .«cutoff_write_base») 2047 && leZ (negsuc 56) (r .«cutoff_dac_displacement_codes») && leZ (r .«cutoff_dac_displacement_codes») (pos 57))
     && (leb (r .resonance) 15 && leb (r .routing) 15 && leb (r .mode) 15 && leb (r .volume) 15)
 
 -- A finite f32. Each f32 of the code fits binary32; a number of the logic need not.
-unfoldable pub finiteF32 : Float → Bool
-finiteF32 x = fits binary32 x && finite x
+unfoldable pub finiteF32Of : Float → Bool
+finiteF32Of x = fits binary32 x && finite x
 
 -- The three floats finite.
-unfoldable pub finiteFloats : IntegratorState → Bool
-finiteFloats i = finiteF32 (i .«band_state») && finiteF32 (i .«low_state») && finiteF32 (i .«filter_source_energy»)
+unfoldable pub finiteFloatsOf : IntegratorState → Bool
+finiteFloatsOf i = finiteF32Of (i .«band_state») && finiteF32Of (i .«low_state») && finiteF32Of (i .«filter_source_energy»)
 
 -- What document 01 asks of a state.
 unfoldable pub validOf : State → Bool
-validOf s = validRegisters (s .registers) && finiteFloats (s .integrator)
+validOf s = validRegistersOf (s .registers) && finiteFloatsOf (s .integrator)
 
 -- ---- the block: cutoff u16; displacement i16; write base u16; a byte each: pending, resonance, routing, mode, volume, zero; then f32
 -- band, low and source energy
@@ -71,7 +71,7 @@ fieldsOf b =
     }
 
 -- 24 bytes long, pending 0 or 1, the zero byte zero, and the fields a valid state.
-unfoldable pub decodeOf : List ℕ → Decoded
+unfoldable pub decodeOf : List ℕ → DecodedState
 decodeOf b = cond (eqb (length b) 24 && leb (byteAt b 6) 1 && eqb (byteAt b 11) 0 && validOf (fieldsOf b)) (Valid (fieldsOf b)) Invalid
 
 -- A block of 24 bytes takes the state's; any other bytes stay.

@@ -51,8 +51,8 @@ cutoffLow c = field 0 3 c
 -- ---- the cutoff DAC
 
 -- i32::from(next) - i32::from(previous)
-unfoldable pub stepOf : ℕ → ℕ → ℤ
-stepOf previous next = pos next -ℤ pos previous
+unfoldable pub stepBetweenOf : ℕ → ℕ → ℤ
+stepBetweenOf previous next = pos next -ℤ pos previous
 
 -- (step as f32 * FILTER_CUTOFF_STEP_CHARGE_GAIN).round().clamp(-57.0, 57.0) as i16
 unfoldable pub displacementOf : ℤ → ℤ
@@ -149,7 +149,7 @@ abbrev pub writeCutoffHighOf : State → ℕ → State
 writeCutoffHighOf s value =
     let r = s .registers in
     let next = cutoffOf (fcHigh value) (cutoffLow (r .cutoff)) in
-    let displacement = displacementOf (stepOf (previousCutoffOf r) next) in
+    let displacement = displacementOf (stepBetweenOf (previousCutoffOf r) next) in
     let pending = false in
     withCutoff s next displacement (r .«cutoff_write_base») pending
 

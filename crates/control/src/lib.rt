@@ -1,7 +1,7 @@
 // The filter's registers, its state and the state's 24-byte block.
 ghost use mathlib.Core.Path.{_≡_};
-ghost use Rattle.control.specs.Registers.{startingRegisters, startingState, stepOf, displacementOf, displacedOf, previousCutoffOf, effectiveCutoffOf, writeCutoffLowOf, writeCutoffHighOf, writeSignalRoutingOf, writeModeAndVolumeOf};
-ghost use Rattle.control.specs.Block.{validRegisters, finiteF32, finiteFloats, validOf, blockOf, fieldsOf, decodeOf, encodeOf};
+ghost use Rattle.control.specs.Registers.{startingRegisters, startingState, stepBetweenOf, displacementOf, displacedOf, previousCutoffOf, effectiveCutoffOf, writeCutoffLowOf, writeCutoffHighOf, writeSignalRoutingOf, writeModeAndVolumeOf};
+ghost use Rattle.control.specs.Block.{validRegistersOf, finiteF32Of, finiteFloatsOf, validOf, blockOf, fieldsOf, decodeOf, encodeOf};
 use constants::FILTER_CUTOFF_STEP_CHARGE_GAIN;
 use constants::FILTER_CUTOFF_STEP_CHARGE_LIMIT_CODES;
 use integrator::IntegratorState;
@@ -25,7 +25,7 @@ pub struct State {
 }
 
 // What a block stands for.
-pub enum Decoded {
+pub enum DecodedState {
     Valid(State),
     Invalid,
 }
@@ -41,7 +41,7 @@ fn displacement(step: i32) -> i16
 
 // The step from one cutoff code to another.
 fn step_between(previous: u16, next: u16) -> i32
-    ensures { λ r. ⌜ r ≡ stepOf previous next ⌝ }
+    ensures { λ r. ⌜ r ≡ stepBetweenOf previous next ⌝ }
 {
     (next as i32) - (previous as i32)
 }
@@ -62,13 +62,13 @@ fn displaced(cutoff: u16, displacement: i16) -> u16
 
 // A finite f32, as every float of a state is.
 fn finite_f32(x: f32) -> bool
-    ensures { λ r. ⌜ r ≡ finiteF32 x ⌝ }
+    ensures { λ r. ⌜ r ≡ finiteF32Of x ⌝ }
 {
     floats::is_finite(x)
 }
 
 fn finite_floats(i: IntegratorState) -> bool
-    ensures { λ r. ⌜ r ≡ finiteFloats i ⌝ }
+    ensures { λ r. ⌜ r ≡ finiteFloatsOf i ⌝ }
 {
     finite_f32(i.band_state) & finite_f32(i.low_state) & finite_f32(i.filter_source_energy)
 }
@@ -99,7 +99,7 @@ impl FilterRegisters {
     }
 
     fn is_valid(self) -> bool
-        ensures { λ r. ⌜ r ≡ validRegisters self ⌝ }
+        ensures { λ r. ⌜ r ≡ validRegistersOf self ⌝ }
     {
         ((self.cutoff <= FilterRegisters::CUTOFF_MAX)
             & (self.cutoff_write_base <= FilterRegisters::CUTOFF_MAX)
@@ -284,7 +284,7 @@ impl State {
     }
 
     // The state of a valid block.
-    pub fn decode(block: &[u8]) -> Decoded
+    pub fn decode(block: &[u8]) -> DecodedState
         ensures { λ r. ⌜ r ≡ decodeOf (now (block .entry)) ⌝ }
     {
         let state = State::fields(block);
@@ -293,8 +293,8 @@ impl State {
             & (wire::byte_at(block, 11) == 0)
             & state.is_valid()
         {
-            return Decoded::Valid(state);
+            return DecodedState::Valid(state);
         }
-        Decoded::Invalid
+        DecodedState::Invalid
     }
 }

@@ -9,8 +9,8 @@ use lib.Ieee.{Float, nan, binary32, ofInt}
 use Rattle.constants.specs.Values as K
 use Rattle.floats.specs.Arithmetic.{_⊕_, _⊖_, _⊗_, _⊘_, f32}
 use Rattle.floats.specs.Floats.{clampOf}
-use Rattle.response.specs.Levels.{outputCommonModeOf}
-use Rattle.response.specs.Gain.{modeOutputGainOf, symmetricGainOf, singleOf, modeIndexOf}
+use Rattle.response.specs.Levels.{filterOutputCommonModeOf}
+use Rattle.response.specs.Gain.{filterModeOutputGainOf, symmetricGainOf, isSingleModeOf, modeIndexOf}
 use Rattle.bundle.specs.Layout.{integratorGainPlace, dampingPlace, sourceGainModulationPlace, highpassLoadingPlace, directionalPowerPlace}
 use Rattle.bundle.specs.Opening.{entryAt}
 use Rattle.control.specs.declared.FilterRegisters.{FilterRegisters}
@@ -35,8 +35,8 @@ bandPassLowCouplingOf position =
     K.FILTER-BANDPASS-LOW-COUPLING-MAX ⊗ square ⊘ (square ⊕ K.FILTER-BANDPASS-LOW-COUPLING-KNEE ⊗ K.FILTER-BANDPASS-LOW-COUPLING-KNEE)
 
 -- resonance as f32 / 15.0
-abbrev pub resonancePositionOf : ℕ → Float
-resonancePositionOf resonance = ofInt binary32 (pos resonance) ⊘ f32 0x4170_0000
+abbrev pub resonancePartOf : ℕ → Float
+resonancePartOf resonance = ofInt binary32 (pos resonance) ⊘ f32 0x4170_0000
 
 -- 0.78 + 0.30 * resonance_position
 abbrev pub feedbackScaleOf : Float → Float
@@ -64,10 +64,10 @@ gainAt bundle code resonance bin = entryAt bundle (integratorGainPlace code reso
 unfoldable pub integratorGainOf : List ℕ → ℕ → ℕ → List Float
 integratorGainOf bundle code resonance = sixteen (gainAt bundle code resonance)
 
-unfoldable pub filterControlsOf : List ℕ → ℕ → ℕ → FilterControls
-filterControlsOf bundle cutoff resonance =
+unfoldable pub refreshFilterControlsOf : List ℕ → ℕ → ℕ → FilterControls
+refreshFilterControlsOf bundle cutoff resonance =
     let position = ofInt binary32 (pos cutoff) in
-    let r = resonancePositionOf resonance in
+    let r = resonancePartOf resonance in
     record {
       «effective_cutoff_index» = cutoff;
       «integrator_gain» = integratorGainOf bundle cutoff resonance;
@@ -89,19 +89,19 @@ filterControlsOf bundle cutoff resonance =
 unfoldable pub directionalOf : List ℕ → FilterRegisters → Float
 directionalOf bundle r =
     let m = r .mode % 8 in
-    cond (singleOf m)
+    cond (isSingleModeOf m)
     (symmetricGainOf (modeIndexOf m) (r .cutoff) ⊗ entryAt bundle (directionalPowerPlace (modeIndexOf m) (r .cutoff) (r .«cutoff_dac_displacement_codes»)))
     one
 
-unfoldable pub modeGainOf : List ℕ → FilterRegisters → ℕ → Float
-modeGainOf bundle r effective =
-    modeOutputGainOf (r .mode) (r .resonance) effective (entryAt bundle (highpassLoadingPlace effective)) ⊗ directionalOf bundle r
+unfoldable pub refreshModeOutputGainOf : List ℕ → FilterRegisters → ℕ → Float
+refreshModeOutputGainOf bundle r effective =
+    filterModeOutputGainOf (r .mode) (r .resonance) effective (entryAt bundle (highpassLoadingPlace effective)) ⊗ directionalOf bundle r
 
 -- ---- `refresh_register_output_state`
 
-unfoldable pub outputControlsOf : FilterRegisters → OutputControls
-outputControlsOf r =
-    let common = outputCommonModeOf (r .mode) (r .cutoff) in
+unfoldable pub refreshRegisterOutputStateOf : FilterRegisters → OutputControls
+refreshRegisterOutputStateOf r =
+    let common = filterOutputCommonModeOf (r .mode) (r .cutoff) in
     let volume = ofInt binary32 (pos (r .volume)) in
     let fraction = volume ⊘ f32 0x4170_0000 in
     record {
@@ -121,7 +121,7 @@ unfoldable pub controlsOf : List ℕ → State → ControlCache
 controlsOf bundle s =
     let effective = effectiveCutoffOf s in
     record {
-      filter = filterControlsOf bundle effective (s .registers .resonance);
-      «mode_output_gain» = modeGainOf bundle (s .registers) effective;
-      output = outputControlsOf (s .registers);
+      filter = refreshFilterControlsOf bundle effective (s .registers .resonance);
+      «mode_output_gain» = refreshModeOutputGainOf bundle (s .registers) effective;
+      output = refreshRegisterOutputStateOf (s .registers);
     }

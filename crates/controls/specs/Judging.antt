@@ -11,7 +11,7 @@ use Rattle.answers.specs.declared.Buffer.the-variants.{Bundle}
 use Rattle.answers.specs.Answers.{firstOf, unlessOf}
 use Rattle.bundle.specs.Layout.{integratorGainPlace, dampingPlace, sourceGainModulationPlace, highpassLoadingPlace, directionalPowerPlace}
 use Rattle.bundle.specs.Opening.{judgePlacesOf}
-use Rattle.response.specs.Gain.{singleOf, modeIndexOf}
+use Rattle.response.specs.Gain.{isSingleModeOf, modeIndexOf}
 use Rattle.control.specs.declared.FilterRegisters.{FilterRegisters}
 use Rattle.control.specs.declared.State.{State}
 use Rattle.control.specs.Registers.{effectiveCutoffOf}
@@ -42,7 +42,7 @@ unfoldable pub judgeModeOf : List ℕ → FilterRegisters → ℕ → Answer
 judgeModeOf bundle r effective =
     let m = r .mode % 8 in
     firstOf (judgeIfOf (eqb m 4) bundle (highpassLoadingPlace effective))
-    (judgeIfOf (singleOf m) bundle (directionalPowerPlace (modeIndexOf m) (r .cutoff) (r .«cutoff_dac_displacement_codes»)))
+    (judgeIfOf (isSingleModeOf m) bundle (directionalPowerPlace (modeIndexOf m) (r .cutoff) (r .«cutoff_dac_displacement_codes»)))
 
 -- ---- the finite domain
 
@@ -89,5 +89,5 @@ judgeControlsOf bundle s =
     firstOf (judgeFilterOf bundle effective (s .registers .resonance))
     (firstOf (judgeModeOf bundle (s .registers) effective) (unlessOf (finiteControlsOf (controlsOf bundle s)) Domain))
 
-abbrev pub refreshedOf : List ℕ → State → Refreshed
-refreshedOf bundle s = record { answer = judgeControlsOf bundle s; controls = controlsOf bundle s }
+abbrev pub refreshOf : List ℕ → State → Refreshed
+refreshOf bundle s = record { answer = judgeControlsOf bundle s; controls = controlsOf bundle s }

@@ -129,7 +129,7 @@ pub fn band_pass_low_coupling(position: f32) -> f32
 
 // The resonance as a part of the highest, 15.
 pub fn resonance_position(resonance: u8) -> f32
-    ensures { λ r. ⌜ r ≡ C.resonancePositionOf resonance ⌝ }
+    ensures { λ r. ⌜ r ≡ C.resonancePartOf resonance ⌝ }
 {
     floats::of_u16(resonance as u16) / 15.0
 }
@@ -159,7 +159,7 @@ pub fn resonance_output_gain(r: f32) -> f32
 
 // The controls of the filter's core at an effective cutoff and a resonance.
 pub fn refresh_filter_controls(bundle: &[u8], cutoff: u16, resonance: u8) -> FilterControls
-    ensures { λ r. ⌜ r ≡ C.filterControlsOf (now (bundle .entry)) cutoff resonance ⌝ }
+    ensures { λ r. ⌜ r ≡ C.refreshFilterControlsOf (now (bundle .entry)) cutoff resonance ⌝ }
 {
     let position = floats::of_u16(cutoff);
     let r = resonance_position(resonance);
@@ -202,7 +202,7 @@ fn directional(bundle: &[u8], r: FilterRegisters) -> f32
 
 // The gain of the selected output: the effective cutoff in its law, the written one in the loading curves.
 pub fn refresh_mode_output_gain(bundle: &[u8], r: FilterRegisters, effective: u16) -> f32
-    ensures { λ g. ⌜ g ≡ C.modeGainOf (now (bundle .entry)) r effective ⌝ }
+    ensures { λ g. ⌜ g ≡ C.refreshModeOutputGainOf (now (bundle .entry)) r effective ⌝ }
 {
     let loading = bundle::entry_at(bundle, bundle::highpass_loading_place(effective));
     response::filter_mode_output_gain(r.mode, r.resonance, effective, loading)
@@ -213,7 +213,7 @@ pub fn refresh_mode_output_gain(bundle: &[u8], r: FilterRegisters, effective: u1
 
 // What the output stage takes from the registers alone.
 pub fn refresh_register_output_state(r: FilterRegisters) -> OutputControls
-    ensures { λ o. ⌜ o ≡ C.outputControlsOf r ⌝ }
+    ensures { λ o. ⌜ o ≡ C.refreshRegisterOutputStateOf r ⌝ }
 {
     let common = response::filter_output_common_mode(r.mode, r.cutoff);
     let volume = floats::of_u16(r.volume as u16);
@@ -358,7 +358,7 @@ pub fn finite_controls(c: ControlCache) -> bool
 
 // The controls of a state, with the first refusal among their entries and numbers.
 pub fn refresh(bundle: &[u8], s: State) -> Refreshed
-    ensures { λ r. ⌜ r ≡ J.refreshedOf (now (bundle .entry)) s ⌝ }
+    ensures { λ r. ⌜ r ≡ J.refreshOf (now (bundle .entry)) s ⌝ }
 {
     let effective = s.effective_cutoff();
     let registers = s.registers;

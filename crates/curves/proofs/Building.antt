@@ -12,28 +12,28 @@ use borrow.Author.Tests.{eqb-true}
 use Rattle.answers.specs.declared.Answer.the-variants.{Done, CurvesLength}
 use Rattle.answers.specs.Answers.{firstOf, unlessOf}
 use Rattle.answers.proofs.Laws.{first-done, unless-done}
-use Rattle.wire.specs.Wire.{u32At, usable, floatBytes, putAt, rows}
+use Rattle.wire.specs.Wire.{u32At, usableOf, floatBytes, putAt, rows}
 use Rattle.wire.proofs.Laws.{length-bytesOf, length-rows, rows-put, putAt-in, putAt-nil, putAt-whole, numberAt-take, numberAt-drop}
 use Rattle.bundle.specs.Layout.{analogueSurface}
 use Rattle.bundle.specs.Opening.{checkOf, judgeSectionOf}
 use Rattle.bundle.proofs.Accepted.{check-done, section-done}
-use Rattle.curves.specs.declared.LoadPosition.{LoadPosition}
+use Rattle.curves.specs.declared.AnalogueLoadPosition.{AnalogueLoadPosition}
 use Rattle.curves.specs.Sampling.{loadPositionOf, tablePlace}
-use Rattle.curves.specs.Building.{loadCurveOf, curveLoadOf, curveEntryOf, rowOf, UsableRow, blendOf, blendsOf, Buildable, curveOf, buildAnswerOf}
+use Rattle.curves.specs.Building.{loadCurveOf, curveLoadOf, curveEntryOf, tableRowOf, UsableRow, blendOf, blendsOf, Buildable, curveOf, buildAnswerOf}
 use Rattle.curves.proofs.Laws.{load-lower, load-upper}
 
 -- ---- the row of a load
 
 module _ (bundle : List ℕ) (long : length bundle ≡ 6127736) (base : ℕ) (h : base ≤ 294912) where
   -- word `code` of the row is word base + code of the surface
-  row-word : (code : ℕ) → code ≤ 2047 → u32At (rowOf bundle base) (4 * code) ≡ u32At bundle (tablePlace (base + code))
-  unfolding rowOf
+  row-word : (code : ℕ) → code ≤ 2047 → u32At (tableRowOf bundle base) (4 * code) ≡ u32At bundle (tablePlace (base + code))
+  unfolding tableRowOf
   row-word code l =
       let q : tablePlace base + 4 * code ≡ tablePlace (base + code) = omega arith in
       numberAt-take 4 (drop (tablePlace base) bundle) 8192 (4 * code) (omega arith) ∙ numberAt-drop 4 bundle (tablePlace base) (4 * code) (omega arith) ∙ ap (u32At bundle) q
 
-  pub row-usable : judgeSectionOf bundle analogueSurface ≡ Done → UsableRow (rowOf bundle base)
-  row-usable d code l = ap usable (row-word code (omega arith)) ∙ section-done bundle analogueSurface d (base + code) (omega arith)
+  pub row-usable : judgeSectionOf bundle analogueSurface ≡ Done → UsableRow (tableRowOf bundle base)
+  row-usable d code l = ap usableOf (row-word code (omega arith)) ∙ section-done bundle analogueSurface d (base + code) (omega arith)
 
 -- ---- rows that are equal one by one
 
@@ -44,10 +44,10 @@ rows-same r r′ e (suc n) = rw (rows-same r r′ e n, e n)
 
 -- A curve is what the rows of its two loads blend to.
 module _ (bundle : List ℕ) (long : length bundle ≡ 6127736) (curve : ℕ) where
-  abbrev load : LoadPosition
+  abbrev load : AnalogueLoadPosition
   load = loadPositionOf (curveLoadOf curve)
 
-  blend-entry : (k : ℕ) → blendOf (rowOf bundle (load .«lower_base»)) (rowOf bundle (load .«upper_base»)) (load .fraction) curve k ≡ curveEntryOf bundle curve k
+  blend-entry : (k : ℕ) → blendOf (tableRowOf bundle (load .«lower_base»)) (tableRowOf bundle (load .«upper_base»)) (load .fraction) curve k ≡ curveEntryOf bundle curve k
   unfolding blendOf curveEntryOf loadCurveOf
   blend-entry k =
       rw (
@@ -55,11 +55,11 @@ module _ (bundle : List ℕ) (long : length bundle ≡ 6127736) (curve : ℕ) wh
         row-word bundle long (load .«upper_base») (load-upper (curveLoadOf curve)) (min k 2047) (omega arith),
       )
 
-  pub blends-curve : blendsOf (rowOf bundle (load .«lower_base»)) (rowOf bundle (load .«upper_base»)) (load .fraction) curve ≡ curveOf bundle curve
+  pub blends-curve : blendsOf (tableRowOf bundle (load .«lower_base»)) (tableRowOf bundle (load .«upper_base»)) (load .fraction) curve ≡ curveOf bundle curve
   unfolding blendsOf curveOf
   blends-curve =
       rows-same
-      (λ k. floatBytes (blendOf (rowOf bundle (load .«lower_base»)) (rowOf bundle (load .«upper_base»)) (load .fraction) curve k))
+      (λ k. floatBytes (blendOf (tableRowOf bundle (load .«lower_base»)) (tableRowOf bundle (load .«upper_base»)) (load .fraction) curve k))
       (λ k. floatBytes (curveEntryOf bundle curve k))
       (λ k. ap floatBytes (blend-entry k))
       2049

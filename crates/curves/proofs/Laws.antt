@@ -11,7 +11,7 @@ use Rattle.answers.specs.Answers.{firstOf}
 use Rattle.bundle.specs.Opening.{judgePlacesOf}
 use Rattle.bundle.proofs.Laws.{judge-append}
 use Rattle.response.specs.declared.TablePosition.{TablePosition}
-use Rattle.curves.specs.declared.LoadPosition.{LoadPosition}
+use Rattle.curves.specs.declared.AnalogueLoadPosition.{AnalogueLoadPosition}
 use Rattle.curves.specs.Sampling.{loadPositionOf, inputPositionOf, tablePlace, cornersOf, curvePlace}
 
 module _ (conductance : Float) where
@@ -37,7 +37,7 @@ pub surface-place : (load input : ℕ) → tablePlace (load * 2048 + input) ≡ 
 surface-place load input = refl
 
 -- the corners of the lower load, then those of the upper
-pub corners-apart : (bundle : List ℕ) (load : LoadPosition) (at : TablePosition) → judgePlacesOf Bundle bundle (cornersOf load at)
+pub corners-apart : (bundle : List ℕ) (load : AnalogueLoadPosition) (at : TablePosition) → judgePlacesOf Bundle bundle (cornersOf load at)
     ≡ firstOf (judgePlacesOf Bundle bundle (tablePlace (load .«lower_base» + at .lower) ∷ tablePlace (load .«lower_base» + at .upper) ∷ []))
     (judgePlacesOf Bundle bundle (tablePlace (load .«upper_base» + at .lower) ∷ tablePlace (load .«upper_base» + at .upper) ∷ []))
 unfolding cornersOf

@@ -13,24 +13,24 @@ use Rattle.answers.specs.Answers.{isDoneOf, firstOf, unlessOf}
 use Rattle.constants.specs.Values as K
 use Rattle.floats.specs.Arithmetic.{_⊕_, _⊖_, _⊗_, _⊘_, f32}
 use Rattle.wire.specs.Wire.{f32At, usableAt, floatBytes, rows}
-use Rattle.response.specs.Levels.{between, conductanceCodeOf}
+use Rattle.response.specs.Levels.{interpolateOf, volumeDacConductanceCodeOf}
 use Rattle.bundle.specs.Layout.{bundleLength, analogueSurface}
 use Rattle.bundle.specs.Opening.{checkOf, judgeSectionOf}
-use Rattle.curves.specs.declared.LoadPosition.{LoadPosition}
+use Rattle.curves.specs.declared.AnalogueLoadPosition.{AnalogueLoadPosition}
 use Rattle.curves.specs.Sampling.{loadPositionOf, tablePlace, tableAt}
 
 -- `build_load_curve`: entry k lies between the two loads' entries at k, and entry 2,048 repeats entry 2,047
-unfoldable pub loadCurveOf : List ℕ → LoadPosition → ℕ → Float
+unfoldable pub loadCurveOf : List ℕ → AnalogueLoadPosition → ℕ → Float
 loadCurveOf bundle load k =
     let code = min k 2047 in
-    between (tableAt bundle (load .«lower_base» + code)) (tableAt bundle (load .«upper_base» + code)) (load .fraction)
+    interpolateOf (tableAt bundle (load .«lower_base» + code)) (tableAt bundle (load .«upper_base» + code)) (load .fraction)
 
 -- The conductance that a curve is built for. Curves 0 to 6 are the summer's, by the count of inputs, 7 to 14 the mixer's, and 15 to 30 the volume's.
 unfoldable pub curveLoadOf : ℕ → Float
 curveLoadOf curve =
     cond (ltb curve 7) (ofInt binary32 (pos curve))
     (cond (ltb curve 15) (ofInt binary32 (pos (curve - 7)) ⊗ K.SID-MIXER-CONDUCTANCE-PER-INPUT)
-    (conductanceCodeOf (curve - 15) ⊘ K.SID-VOLUME-CONDUCTANCE-DIVISOR))
+    (volumeDacConductanceCodeOf (curve - 15) ⊘ K.SID-VOLUME-CONDUCTANCE-DIVISOR))
 
 -- An entry of a volume curve, centred and moved by the DAC's bias, which grows with the volume.
 unfoldable pub volumeEntryOf : ℕ → Float → Float
@@ -56,8 +56,8 @@ curvesOf bundle = rows (curveOf bundle) 31
 -- ---- the same from the rows of the two loads
 
 -- The row of a load: its 2,048 entries, of four bytes each.
-unfoldable pub rowOf : List ℕ → ℕ → List ℕ
-rowOf bundle base = take 8192 (drop (tablePlace base) bundle)
+unfoldable pub tableRowOf : List ℕ → ℕ → List ℕ
+tableRowOf bundle base = take 8192 (drop (tablePlace base) bundle)
 
 abbrev pub UsableRow : List ℕ → Type 0
 UsableRow row = (code : ℕ) → code < 2048 → usableAt row (4 * code) ≡ true
@@ -65,7 +65,7 @@ UsableRow row = (code : ℕ) → code < 2048 → usableAt row (4 * code) ≡ tru
 unfoldable pub blendOf : List ℕ → List ℕ → Float → ℕ → ℕ → Float
 blendOf lower upper fraction curve k =
     let code = min k 2047 in
-    finishedOf curve (between (f32At lower (4 * code)) (f32At upper (4 * code)) fraction)
+    finishedOf curve (interpolateOf (f32At lower (4 * code)) (f32At upper (4 * code)) fraction)
 
 unfoldable pub blendsOf : List ℕ → List ℕ → Float → ℕ → List ℕ
 blendsOf lower upper fraction curve = rows (λ k. floatBytes (blendOf lower upper fraction curve k)) 2049

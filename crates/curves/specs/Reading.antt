@@ -6,11 +6,11 @@ use Rattle.bundle.specs.declared.Read.{Read}
 use Rattle.bundle.specs.Opening.{judgePlacesOf}
 use Rattle.bundle.specs.Reading.{readOf}
 use Rattle.response.specs.declared.TablePosition.{TablePosition}
-use Rattle.response.specs.Levels.{between}
+use Rattle.response.specs.Levels.{interpolateOf}
 use Rattle.curves.specs.Sampling.{tablePlace, tableAt}
 
 -- the row of a load, by the index of its first entry, at a position of the input
 abbrev pub readRowOf : List ℕ → ℕ → TablePosition → Read
 readRowOf bundle base at =
     readOf (judgePlacesOf Bundle bundle (tablePlace (base + at .lower) ∷ tablePlace (base + at .upper) ∷ []))
-    (between (tableAt bundle (base + at .lower)) (tableAt bundle (base + at .upper)) (at .fraction))
+    (interpolateOf (tableAt bundle (base + at .lower)) (tableAt bundle (base + at .upper)) (at .fraction))

@@ -8,16 +8,16 @@ use Rattle.constants.specs.Values as K
 use Rattle.floats.specs.Arithmetic.{_⊗_, _⊘_, f32}
 use Rattle.floats.specs.Floats.{clampOf, ofSmall}
 use Rattle.response.specs.declared.TablePosition.{TablePosition}
-use Rattle.response.specs.Levels.{between, quiescentLevelOf}
+use Rattle.response.specs.Levels.{interpolateOf, filterModeQuiescentLevelOf}
 use Rattle.response.specs.Position.{tablePositionOf}
 use Rattle.bundle.specs.Layout.{analogueSurface, entryPlace}
 use Rattle.bundle.specs.Opening.{entryAt}
-use Rattle.curves.specs.declared.LoadPosition.{LoadPosition}
+use Rattle.curves.specs.declared.AnalogueLoadPosition.{AnalogueLoadPosition}
 
 -- ---- positions
 
 -- `load_position`: a conductance of 0 to 9 lies between two of the 145 loads. A base is the index of a load's first entry.
-unfoldable pub loadPositionOf : Float → LoadPosition
+unfoldable pub loadPositionOf : Float → AnalogueLoadPosition
 loadPositionOf conductance =
     let at = tablePositionOf 144 (clampOf conductance (f32 0) K.SID-ANALOGUE-MAX-CONDUCTANCE ⊗ f32 0x4310_0000 ⊘ K.SID-ANALOGUE-MAX-CONDUCTANCE) in
     record { «lower_base» = at .lower * 2048; «upper_base» = at .upper * 2048; fraction = at .fraction }
@@ -36,10 +36,10 @@ abbrev pub tableAt : List ℕ → ℕ → Float
 tableAt bundle index = entryAt bundle (tablePlace index)
 
 -- `sample_at`: over the input first, in the row of either load, and then over the load
-unfoldable pub sampleAtOf : List ℕ → LoadPosition → TablePosition → Float
+unfoldable pub sampleAtOf : List ℕ → AnalogueLoadPosition → TablePosition → Float
 sampleAtOf bundle load at =
-    between (between (tableAt bundle (load .«lower_base» + at .lower)) (tableAt bundle (load .«lower_base» + at .upper)) (at .fraction))
-    (between (tableAt bundle (load .«upper_base» + at .lower)) (tableAt bundle (load .«upper_base» + at .upper)) (at .fraction))
+    interpolateOf (interpolateOf (tableAt bundle (load .«lower_base» + at .lower)) (tableAt bundle (load .«lower_base» + at .upper)) (at .fraction))
+    (interpolateOf (tableAt bundle (load .«upper_base» + at .lower)) (tableAt bundle (load .«upper_base» + at .upper)) (at .fraction))
     (load .fraction)
 
 -- `sample`
@@ -47,7 +47,7 @@ unfoldable pub sampleOf : List ℕ → Float → Float → Float
 sampleOf bundle conductance input = sampleAtOf bundle (loadPositionOf conductance) (inputPositionOf input)
 
 -- The places that `sample_at` reads, in its order: lower left, lower right, upper left, upper right.
-unfoldable pub cornersOf : LoadPosition → TablePosition → List ℕ
+unfoldable pub cornersOf : AnalogueLoadPosition → TablePosition → List ℕ
 cornersOf load at =
     tablePlace (load .«lower_base» + at .lower) ∷
     tablePlace (load .«lower_base» + at .upper) ∷
@@ -68,7 +68,7 @@ curvePlace curve index = 4 * (curve * 2049 + index)
 unfoldable pub sampleCurveOf : List ℕ → ℕ → Float → Float
 sampleCurveOf curves curve input =
     let at = inputPositionOf input in
-    between (entryAt curves (curvePlace curve (at .lower))) (entryAt curves (curvePlace curve (at .lower + 1))) (at .fraction)
+    interpolateOf (entryAt curves (curvePlace curve (at .lower))) (entryAt curves (curvePlace curve (at .lower + 1))) (at .fraction)
 
 unfoldable pub sampleCurvePlacesOf : ℕ → Float → List ℕ
 sampleCurvePlacesOf curve input =
@@ -78,8 +78,8 @@ sampleCurvePlacesOf curve input =
 -- ---- the summer at rest
 
 -- `summer_resting_output` of `Filter::new`: the surface at the load of `count` inputs and the quiescent level, and 0 for counts below 2
-unfoldable pub restingOutputOf : List ℕ → ℕ → Float
-restingOutputOf bundle count = cond (leb 2 count) (sampleOf bundle (ofSmall count) quiescentLevelOf) (f32 0)
+unfoldable pub summerRestingOutputOf : List ℕ → ℕ → Float
+summerRestingOutputOf bundle count = cond (leb 2 count) (sampleOf bundle (ofSmall count) filterModeQuiescentLevelOf) (f32 0)
 
-unfoldable pub restingPlacesOf : ℕ → List ℕ
-restingPlacesOf count = cond (leb 2 count) (samplePlacesOf (ofSmall count) quiescentLevelOf) []
+unfoldable pub summerRestingPlacesOf : ℕ → List ℕ
+summerRestingPlacesOf count = cond (leb 2 count) (samplePlacesOf (ofSmall count) filterModeQuiescentLevelOf) []

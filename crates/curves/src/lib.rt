@@ -11,17 +11,17 @@ ghost use Rattle.response.specs.Position.{tablePositionOf};
 ghost use mathlib.Core.List.{[], _∷_};
 ghost use Rattle.bundle.specs.Opening.{entryAt, judgePlacesOf};
 ghost use Rattle.bundle.specs.Reading.{readOf};
-ghost use Rattle.response.specs.Levels.{between};
-ghost use Rattle.curves.specs.Sampling.{loadPositionOf, inputPositionOf, tablePlace, samplePlacesOf, sampleOf, curvePlace, sampleCurvePlacesOf, sampleCurveOf, restingPlacesOf, restingOutputOf};
+ghost use Rattle.response.specs.Levels.{interpolateOf};
+ghost use Rattle.curves.specs.Sampling.{loadPositionOf, inputPositionOf, tablePlace, samplePlacesOf, sampleOf, curvePlace, sampleCurvePlacesOf, sampleCurveOf, summerRestingPlacesOf, summerRestingOutputOf};
 ghost use Rattle.curves.specs.Reading.{readRowOf};
-ghost use Rattle.curves.specs.Building.{curveLoadOf, volumeEntryOf, finishedOf, rowOf, UsableRow, blendOf, blendsOf, Buildable, curveOf, curvesOf, buildAnswerOf, builtOf};
+ghost use Rattle.curves.specs.Building.{curveLoadOf, volumeEntryOf, finishedOf, tableRowOf, UsableRow, blendOf, blendsOf, Buildable, curveOf, curvesOf, buildAnswerOf, builtOf};
 use answers::Answer;
 use answers::Buffer;
 use bundle::Read;
 use response::TablePosition;
 
 // The rows of the two loads that a conductance lies between, each by the index of its first entry, and how far it lies from the lower one.
-pub struct LoadPosition {
+pub struct AnalogueLoadPosition {
     pub lower_base: usize,
     pub upper_base: usize,
     pub fraction: f32,
@@ -49,12 +49,12 @@ fn table_position(last: usize, position: f32) -> TablePosition
 }
 
 // The loads that a conductance lies between: it is clamped to 0 to 9, and the index of a load is at most 144.
-pub fn load_position(conductance: f32) -> LoadPosition
+pub fn load_position(conductance: f32) -> AnalogueLoadPosition
     ensures { λ r. ⌜ r ≡ loadPositionOf conductance ⌝ }
 {
     let most = constants::SID_ANALOGUE_MAX_CONDUCTANCE;
     let at = table_position(144, floats::clamp(conductance, 0.0, most) * 144.0 / most);
-    LoadPosition {
+    AnalogueLoadPosition {
         lower_base: at.lower * 2048,
         upper_base: at.upper * 2048,
         fraction: at.fraction,
@@ -93,7 +93,7 @@ fn sample_places(conductance: f32, input: f32) -> [u32; 4]
 
 // Between two entries, each judged as it is read.
 fn read_between(buffer: Buffer, bytes: &[u8], lower: u32, upper: u32, fraction: f32) -> Read
-    ensures { λ r. ⌜ r ≡ readOf (judgePlacesOf buffer (now (bytes .entry)) (lower ∷ upper ∷ [])) (between (entryAt (now (bytes .entry)) lower) (entryAt (now (bytes .entry)) upper) fraction) ⌝ }
+    ensures { λ r. ⌜ r ≡ readOf (judgePlacesOf buffer (now (bytes .entry)) (lower ∷ upper ∷ [])) (interpolateOf (entryAt (now (bytes .entry)) lower) (entryAt (now (bytes .entry)) upper) fraction) ⌝ }
 {
     let first = bundle::read_entry(buffer, bytes, lower);
     match first {
@@ -219,7 +219,7 @@ pub fn read_curve(curves: &[u8], curve: u8, input: f32) -> Read
 
 // Refuses at the first unusable entry that `summer_resting_output` reads.
 pub fn judge_summer_resting_output(bundle: &[u8], count: usize) -> Answer
-    ensures { λ r. ⌜ r ≡ judgePlacesOf Bundle (now (bundle .entry)) (restingPlacesOf count) ⌝ }
+    ensures { λ r. ⌜ r ≡ judgePlacesOf Bundle (now (bundle .entry)) (summerRestingPlacesOf count) ⌝ }
 {
     if 2 <= count {
         return judge_sample(
@@ -233,7 +233,7 @@ pub fn judge_summer_resting_output(bundle: &[u8], count: usize) -> Answer
 
 // The summer's output at rest, for a count of inputs with the two that are always there.
 pub fn summer_resting_output(bundle: &[u8], count: usize) -> f32
-    ensures { λ r. ⌜ r ≡ restingOutputOf (now (bundle .entry)) count ⌝ }
+    ensures { λ r. ⌜ r ≡ summerRestingOutputOf (now (bundle .entry)) count ⌝ }
 {
     if 2 <= count {
         return sample(
@@ -247,7 +247,7 @@ pub fn summer_resting_output(bundle: &[u8], count: usize) -> f32
 
 // `summer_resting_output`, each entry judged as it is read. It depends on the bundle and the count alone, so a run may keep it.
 pub fn read_resting_output(bundle: &[u8], count: usize) -> Read
-    ensures { λ r. ⌜ r ≡ readOf (judgePlacesOf Bundle (now (bundle .entry)) (restingPlacesOf count)) (restingOutputOf (now (bundle .entry)) count) ⌝ }
+    ensures { λ r. ⌜ r ≡ readOf (judgePlacesOf Bundle (now (bundle .entry)) (summerRestingPlacesOf count)) (summerRestingOutputOf (now (bundle .entry)) count) ⌝ }
 {
     if 2 <= count {
         return read_sample(
@@ -295,7 +295,7 @@ fn finished(curve: u8, entry: f32) -> f32
 // The row of a load, by the index of its first entry.
 fn table_row(bundle: &[u8], base: usize) -> &[u8]
     requires { ⌜ (base ≤ 294912) × (length (now bundle) ≡ 6127736) ⌝ }
-    ensures { λ r. ⌜ now r ≡ rowOf (now (bundle .entry)) base ⌝ }
+    ensures { λ r. ⌜ now r ≡ tableRowOf (now (bundle .entry)) base ⌝ }
 {
     let from = 2105464 + 4 * base;
     let end = from + 8192;

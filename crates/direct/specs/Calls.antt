@@ -17,25 +17,25 @@ use Rattle.integrator.specs.declared.Coefficients.{Coefficients}
 use Rattle.integrator.specs.declared.Advanced.{Advanced}
 use Rattle.integrator.specs.Integrator.{saturateOf, advanceOf}
 use Rattle.response.specs.declared.TablePosition.{TablePosition}
-use Rattle.response.specs.Levels.{normaliseVoltageOf, conductanceCodeOf, outputCommonModeOf}
+use Rattle.response.specs.Levels.{normaliseVoltageOf, volumeDacConductanceCodeOf, filterOutputCommonModeOf}
 use Rattle.response.specs.Position.{operatingPositionOf}
-use Rattle.response.specs.Gain.{modeOutputGainOf}
+use Rattle.response.specs.Gain.{filterModeOutputGainOf}
 use Rattle.mixing.specs.declared.MixingTopology.{MixingTopology}
 use Rattle.mixing.specs.Topology.{topologyOf}
 use Rattle.bundle.specs.Layout.{highpassLoadingPlace}
 use Rattle.bundle.specs.Opening.{checkOf, entryAt, judgePlacesOf}
-use Rattle.transfers.specs.Transfers.{mixerSlotOf, mixerOf, judgeMixerOf, volumeSlotOf, volumeOf, judgeVolumeOf}
-use Rattle.sample.specs.Sample.{summerSlotOf, summerOf, judgeSummerOf}
+use Rattle.transfers.specs.Transfers.{mixerSlotOf, mixerTransferOf, judgeMixerOf, volumeSlotOf, volumeTransferOf, judgeVolumeOf}
+use Rattle.sample.specs.Sample.{summerSlotOf, summerTransferOf, judgeSummerOf}
 use Rattle.direct.specs.declared.Valued.{Valued}
-use Rattle.direct.specs.declared.Stepped.{Stepped}
+use Rattle.direct.specs.declared.Substepped.{Substepped}
 use Rattle.direct.specs.declared.Routed.{Routed}
 use Rattle.direct.specs.declared.Binned.{Binned}
 
 -- ---- what they share
 
 -- A value where nothing is refused, else 0. The last refusal is 6, for a value that is not finite.
-abbrev pub finishedOf : Answer → Float → Valued
-finishedOf judged value =
+abbrev pub judgedValueOf : Answer → Float → Valued
+judgedValueOf judged value =
     let answer = firstOf judged (unlessOf (finite value) Domain) in
     record { answer = answer; value = cond (isDoneOf answer) value (f32 0) }
 
@@ -53,8 +53,8 @@ summerAnswerOf bundle curves t sum =
     (firstOf (unlessOf (finite sum) InputNotFinite)
     (judgeSummerOf bundle curves (summerSlotOf t) t sum))))
 
-unfoldable pub summerCallOf : List ℕ → List ℕ → MixingTopology → Float → Valued
-summerCallOf bundle curves t sum = finishedOf (summerAnswerOf bundle curves t sum) (summerOf bundle curves (summerSlotOf t) t sum)
+unfoldable pub summerTransferCallOf : List ℕ → List ℕ → MixingTopology → Float → Valued
+summerTransferCallOf bundle curves t sum = judgedValueOf (summerAnswerOf bundle curves t sum) (summerTransferOf bundle curves (summerSlotOf t) t sum)
 
 -- `mixer_transfer`: 4, 10, 9, 3, 6
 unfoldable pub mixerAnswerOf : List ℕ → MixingTopology → Float → Answer
@@ -64,8 +64,8 @@ mixerAnswerOf curves t sum =
     (firstOf (unlessOf (leb (t .«mixer_input_count») 7) MixerInputs)
     (judgeMixerOf curves (mixerSlotOf (t .«mixer_input_count»)) t sum)))
 
-unfoldable pub mixerCallOf : List ℕ → MixingTopology → Float → Valued
-mixerCallOf curves t sum = finishedOf (mixerAnswerOf curves t sum) (mixerOf curves (mixerSlotOf (t .«mixer_input_count»)) t sum)
+unfoldable pub mixerTransferCallOf : List ℕ → MixingTopology → Float → Valued
+mixerTransferCallOf curves t sum = judgedValueOf (mixerAnswerOf curves t sum) (mixerTransferOf curves (mixerSlotOf (t .«mixer_input_count»)) t sum)
 
 -- `volume_transfer`: 4, 10, 3, 6
 unfoldable pub volumeAnswerOf : List ℕ → ℕ → Float → Answer
@@ -74,14 +74,14 @@ volumeAnswerOf curves volume value =
     (firstOf (unlessOf (leb volume 15 && finite value) Argument)
     (judgeVolumeOf curves (volumeSlotOf volume) value))
 
-unfoldable pub volumeCallOf : List ℕ → ℕ → Float → Valued
-volumeCallOf curves volume value = finishedOf (volumeAnswerOf curves volume value) (volumeOf curves (volumeSlotOf volume) value)
+unfoldable pub volumeTransferCallOf : List ℕ → ℕ → Float → Valued
+volumeTransferCallOf curves volume value = judgedValueOf (volumeAnswerOf curves volume value) (volumeTransferOf curves (volumeSlotOf volume) value)
 
 -- ---- the integrator
 
 -- `IntegratorState::saturate`: 10, 6
 unfoldable pub saturateCallOf : Float → Float → Valued
-saturateCallOf value drive = finishedOf (unlessOf (finite value && finite drive) Argument) (saturateOf value drive)
+saturateCallOf value drive = judgedValueOf (unlessOf (finite value && finite drive) Argument) (saturateOf value drive)
 
 abbrev pub finiteStateOf : IntegratorState → Bool
 finiteStateOf s = finite (s .«band_state») && finite (s .«low_state») && finite (s .«filter_source_energy»)
@@ -107,7 +107,7 @@ advanceAnswerOf s driven-input k =
     firstOf (unlessOf (finiteStateOf s && finite driven-input && finiteCoefficientsOf k) Argument)
     (unlessOf (finiteStateOf (next .state) && finiteOutputsOf (next .outputs)) Domain)
 
-unfoldable pub advanceCallOf : IntegratorState → Float → Coefficients → Stepped
+unfoldable pub advanceCallOf : IntegratorState → Float → Coefficients → Substepped
 advanceCallOf s driven-input k =
     let answer = advanceAnswerOf s driven-input k in
     record { answer = answer; advanced = advancedOf answer (advanceOf s driven-input k) }
@@ -133,44 +133,44 @@ topologyOr answer topology =
     })
 
 -- `MixingTopology::update`: 10
-unfoldable pub topologyCallOf : ℕ → ℕ → Routed
-topologyCallOf routing mode =
+unfoldable pub mixingTopologyCallOf : ℕ → ℕ → Routed
+mixingTopologyCallOf routing mode =
     let answer = unlessOf (leb routing 15 && leb mode 15) Argument in
     record { answer = answer; topology = topologyOr answer (topologyOf routing mode) }
 
 -- ---- the response
 
 -- `normalise_voltage`: 10
-unfoldable pub voltageCallOf : Float → Valued
-voltageCallOf voltage = finishedOf (unlessOf (finite voltage) Argument) (normaliseVoltageOf voltage)
+unfoldable pub normaliseVoltageCallOf : Float → Valued
+normaliseVoltageCallOf voltage = judgedValueOf (unlessOf (finite voltage) Argument) (normaliseVoltageOf voltage)
 
-abbrev pub positionOf : Answer → TablePosition → TablePosition
-positionOf answer position = cond (isDoneOf answer) position (record { lower = 0; upper = 0; fraction = f32 0 })
+abbrev pub binsOr : Answer → TablePosition → TablePosition
+binsOr answer position = cond (isDoneOf answer) position (record { lower = 0; upper = 0; fraction = f32 0 })
 
 -- `operating_position`: 10
-unfoldable pub positionCallOf : Float → Float → Float → Binned
-positionCallOf input band low =
+unfoldable pub operatingPositionCallOf : Float → Float → Float → Binned
+operatingPositionCallOf input band low =
     let answer = unlessOf (finite input && finite band && finite low) Argument in
-    record { answer = answer; position = positionOf answer (operatingPositionOf input band low) }
+    record { answer = answer; position = binsOr answer (operatingPositionOf input band low) }
 
 -- `volume_dac_conductance_code`: 10
-unfoldable pub conductanceCallOf : ℕ → Valued
-conductanceCallOf volume = finishedOf (unlessOf (leb volume 15) Argument) (conductanceCodeOf volume)
+unfoldable pub volumeDacConductanceCodeCallOf : ℕ → Valued
+volumeDacConductanceCodeCallOf volume = judgedValueOf (unlessOf (leb volume 15) Argument) (volumeDacConductanceCodeOf volume)
 
 -- `filter_output_common_mode`: 10
-unfoldable pub commonModeCallOf : ℕ → ℕ → Valued
-commonModeCallOf mode cutoff = finishedOf (unlessOf (leb mode 15 && leb cutoff 2047) Argument) (outputCommonModeOf mode cutoff)
+unfoldable pub filterOutputCommonModeCallOf : ℕ → ℕ → Valued
+filterOutputCommonModeCallOf mode cutoff = judgedValueOf (unlessOf (leb mode 15 && leb cutoff 2047) Argument) (filterOutputCommonModeOf mode cutoff)
 
 -- `filter_mode_output_gain`: 1, 2, 10, 3, 6. In mode 4 it reads the bundle's `highpass_loading` at the cutoff.
 unfoldable pub judgeLoadingOf : List ℕ → ℕ → ℕ → Answer
 judgeLoadingOf bundle mode cutoff = judgePlacesOf Bundle bundle (cond (eqb (mode % 8) 4) (highpassLoadingPlace cutoff ∷ []) [])
 
-unfoldable pub modeGainAnswerOf : List ℕ → ℕ → ℕ → ℕ → Answer
-modeGainAnswerOf bundle mode resonance cutoff =
+unfoldable pub filterModeOutputGainAnswerOf : List ℕ → ℕ → ℕ → ℕ → Answer
+filterModeOutputGainAnswerOf bundle mode resonance cutoff =
     firstOf (checkOf bundle)
     (firstOf (unlessOf (leb mode 15 && leb resonance 15 && leb cutoff 2047) Argument)
     (judgeLoadingOf bundle mode cutoff))
 
-unfoldable pub modeGainCallOf : List ℕ → ℕ → ℕ → ℕ → Valued
-modeGainCallOf bundle mode resonance cutoff =
-    finishedOf (modeGainAnswerOf bundle mode resonance cutoff) (modeOutputGainOf mode resonance cutoff (entryAt bundle (highpassLoadingPlace cutoff)))
+unfoldable pub filterModeOutputGainCallOf : List ℕ → ℕ → ℕ → ℕ → Valued
+filterModeOutputGainCallOf bundle mode resonance cutoff =
+    judgedValueOf (filterModeOutputGainAnswerOf bundle mode resonance cutoff) (filterModeOutputGainOf mode resonance cutoff (entryAt bundle (highpassLoadingPlace cutoff)))

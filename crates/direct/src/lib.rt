@@ -1,6 +1,6 @@
 // The direct calls of the filter's parts, each refusing by document 01's table before it hands out a number. A refused call answers zeros.
 ghost use mathlib.Core.Path.{_≡_};
-ghost use Rattle.response.specs.Levels.{quiescentLevelOf};
+ghost use Rattle.response.specs.Levels.{filterModeQuiescentLevelOf};
 ghost use Rattle.direct.specs.Calls as C;
 use answers::Answer;
 use answers::Buffer;
@@ -18,7 +18,7 @@ pub struct Valued {
 }
 
 // A substep's outputs and the state after it.
-pub struct Stepped {
+pub struct Substepped {
     pub answer: Answer,
     pub advanced: Advanced,
 }
@@ -39,7 +39,7 @@ pub struct Binned {
 
 // The last refusal is the value's own.
 fn finished(judged: Answer, value: f32) -> Valued
-    ensures { λ r. ⌜ r ≡ C.finishedOf judged value ⌝ }
+    ensures { λ r. ⌜ r ≡ C.judgedValueOf judged value ⌝ }
 {
     let domain = answers::unless(floats::is_finite(value), Answer::Domain);
     let answer = answers::first(judged, domain);
@@ -64,7 +64,7 @@ pub fn summer_transfer(
     topology: MixingTopology,
     input_sum: f32,
 ) -> Valued
-    ensures { λ r. ⌜ r ≡ C.summerCallOf (now (bundle .entry)) (now (curves .entry)) topology «input_sum» ⌝ }
+    ensures { λ r. ⌜ r ≡ C.summerTransferCallOf (now (bundle .entry)) (now (curves .entry)) topology «input_sum» ⌝ }
 {
     let slot = sample::summer_slot(topology);
     let value = sample::summer_transfer(bundle, curves, slot, topology, input_sum);
@@ -80,7 +80,7 @@ pub fn summer_transfer(
 
 // The mixer's output for the sum of its inputs. Refuses 4, 10, 9, 3, 6.
 pub fn mixer_transfer(curves: &[u8], topology: MixingTopology, input_sum: f32) -> Valued
-    ensures { λ r. ⌜ r ≡ C.mixerCallOf (now (curves .entry)) topology «input_sum» ⌝ }
+    ensures { λ r. ⌜ r ≡ C.mixerTransferCallOf (now (curves .entry)) topology «input_sum» ⌝ }
 {
     let slot = transfers::mixer_slot(topology.mixer_input_count);
     let value = transfers::mixer_transfer(curves, slot, topology, input_sum);
@@ -94,7 +94,7 @@ pub fn mixer_transfer(curves: &[u8], topology: MixingTopology, input_sum: f32) -
 
 // The volume DAC's output for the mixer's. Refuses 4, 10, 3, 6.
 pub fn volume_transfer(curves: &[u8], volume: u8, value: f32) -> Valued
-    ensures { λ r. ⌜ r ≡ C.volumeCallOf (now (curves .entry)) volume value ⌝ }
+    ensures { λ r. ⌜ r ≡ C.volumeTransferCallOf (now (curves .entry)) volume value ⌝ }
 {
     let slot = transfers::volume_slot(volume);
     let output = transfers::volume_transfer(curves, slot, value);
@@ -160,7 +160,7 @@ fn advanced_of(answer: Answer, advanced: Advanced) -> Advanced
 }
 
 // One substep of the two capacitors. Refuses 10, 6.
-pub fn advance(state: IntegratorState, driven_input: f32, k: Coefficients) -> Stepped
+pub fn advance(state: IntegratorState, driven_input: f32, k: Coefficients) -> Substepped
     ensures { λ r. ⌜ r ≡ C.advanceCallOf state «driven_input» k ⌝ }
 {
     let advanced = state.advance(driven_input, k);
@@ -169,7 +169,7 @@ pub fn advance(state: IntegratorState, driven_input: f32, k: Coefficients) -> St
     let known = finite_state(state) & floats::is_finite(driven_input) & finite_coefficients(k);
     let domain = answers::unless(finite_state(next) & finite_outputs(outputs), Answer::Domain);
     let answer = answers::first(answers::unless(known, Answer::Argument), domain);
-    Stepped {
+    Substepped {
         answer,
         advanced: advanced_of(answer, advanced),
     }
@@ -200,7 +200,7 @@ fn topology_of(answer: Answer, topology: MixingTopology) -> MixingTopology
 
 // The topology of a routing and a mode nibble. Refuses 10.
 pub fn mixing_topology(routing: u8, mode: u8) -> Routed
-    ensures { λ r. ⌜ r ≡ C.topologyCallOf routing mode ⌝ }
+    ensures { λ r. ⌜ r ≡ C.mixingTopologyCallOf routing mode ⌝ }
 {
     let answer = answers::unless((routing <= 15) & (mode <= 15), Answer::Argument);
     Routed {
@@ -213,21 +213,21 @@ pub fn mixing_topology(routing: u8, mode: u8) -> Routed
 
 // The level of the filter's amplifiers at rest.
 pub fn filter_mode_quiescent_level() -> f32
-    ensures { λ r. ⌜ r ≡ quiescentLevelOf ⌝ }
+    ensures { λ r. ⌜ r ≡ filterModeQuiescentLevelOf ⌝ }
 {
     response::filter_mode_quiescent_level()
 }
 
 // A voltage in the operating window, as 0 to 1. Refuses 10.
 pub fn normalise_voltage(voltage: f32) -> Valued
-    ensures { λ r. ⌜ r ≡ C.voltageCallOf voltage ⌝ }
+    ensures { λ r. ⌜ r ≡ C.normaliseVoltageCallOf voltage ⌝ }
 {
     let argument = answers::unless(floats::is_finite(voltage), Answer::Argument);
     finished(argument, response::normalise_voltage(voltage))
 }
 
 fn position_of(answer: Answer, position: TablePosition) -> TablePosition
-    ensures { λ r. ⌜ r ≡ C.positionOf answer position ⌝ }
+    ensures { λ r. ⌜ r ≡ C.binsOr answer position ⌝ }
 {
     if answers::is_done(answer) {
         return position;
@@ -241,7 +241,7 @@ fn position_of(answer: Answer, position: TablePosition) -> TablePosition
 
 // The operating bins that the input and the two capacitors stand between. Refuses 10.
 pub fn operating_position(input: f32, band: f32, low: f32) -> Binned
-    ensures { λ r. ⌜ r ≡ C.positionCallOf input band low ⌝ }
+    ensures { λ r. ⌜ r ≡ C.operatingPositionCallOf input band low ⌝ }
 {
     let known = floats::is_finite(input) & floats::is_finite(band) & floats::is_finite(low);
     let answer = answers::unless(known, Answer::Argument);
@@ -253,7 +253,7 @@ pub fn operating_position(input: f32, band: f32, low: f32) -> Binned
 
 // The volume DAC's conductance for a volume of 0 to 15. Refuses 10.
 pub fn volume_dac_conductance_code(volume: u8) -> Valued
-    ensures { λ r. ⌜ r ≡ C.conductanceCallOf volume ⌝ }
+    ensures { λ r. ⌜ r ≡ C.volumeDacConductanceCodeCallOf volume ⌝ }
 {
     let argument = answers::unless(volume <= 15, Answer::Argument);
     finished(argument, response::volume_dac_conductance_code(volume))
@@ -261,7 +261,7 @@ pub fn volume_dac_conductance_code(volume: u8) -> Valued
 
 // The operating point that a mode's outputs give the output node at the written cutoff. Refuses 10.
 pub fn filter_output_common_mode(mode: u8, cutoff: u16) -> Valued
-    ensures { λ r. ⌜ r ≡ C.commonModeCallOf mode cutoff ⌝ }
+    ensures { λ r. ⌜ r ≡ C.filterOutputCommonModeCallOf mode cutoff ⌝ }
 {
     let argument = answers::unless((mode <= 15) & (cutoff <= 2047), Answer::Argument);
     finished(argument, response::filter_output_common_mode(mode, cutoff))
@@ -280,7 +280,7 @@ fn judge_loading(bundle: &[u8], mode: u8, cutoff: u16) -> Answer
 
 // The output gain of a mode at a resonance and the effective cutoff. Refuses 1, 2, 10, 3, 6.
 pub fn filter_mode_output_gain(bundle: &[u8], mode: u8, resonance: u8, cutoff: u16) -> Valued
-    ensures { λ r. ⌜ r ≡ C.modeGainCallOf (now (bundle .entry)) mode resonance cutoff ⌝ }
+    ensures { λ r. ⌜ r ≡ C.filterModeOutputGainCallOf (now (bundle .entry)) mode resonance cutoff ⌝ }
 {
     let loading = bundle::entry_at(bundle, bundle::highpass_loading_place(cutoff));
     let gain = response::filter_mode_output_gain(mode, resonance, cutoff, loading);

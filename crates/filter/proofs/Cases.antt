@@ -9,10 +9,10 @@ use Rattle.floats.specs.Arithmetic.{f32}
 use Rattle.floats.specs.Floats.{roundOf}
 use Rattle.mixing.specs.declared.MixingTopology.{MixingTopology}
 use Rattle.mixing.specs.Topology.{one, topologyOf, reciprocalOf, filterCountOf, bypassCountOf, outputCountOf, mixerCountOf}
-use Rattle.curves.specs.declared.LoadPosition.{LoadPosition}
+use Rattle.curves.specs.declared.AnalogueLoadPosition.{AnalogueLoadPosition}
 use Rattle.curves.specs.Sampling.{loadPositionOf, inputPositionOf}
 use Rattle.control.specs.declared.State.{State}
-use Rattle.control.specs.Registers.{stepOf, displacementOf, displacedOf, effectiveCutoffOf, startingState, writeCutoffLowOf, writeCutoffHighOf}
+use Rattle.control.specs.Registers.{stepBetweenOf, displacementOf, displacedOf, effectiveCutoffOf, startingState, writeCutoffLowOf, writeCutoffHighOf}
 
 -- ---- what a row shows
 
@@ -87,5 +87,5 @@ pub cases :
     ∷ (pos 0 ∷ pos 0 ∷ pos 0 ∷ pos 0 ∷ pos 0 ∷ pos 1 ∷ [])
     ∷ (pos 0 ∷ pos 0 ∷ pos 0 ∷ [])
     ∷ []
-unfolding rows displacementOf displacedOf stepOf ofInt ofBits mul neg lt toSigned roundOf topologyOf reciprocalOf filterCountOf bypassCountOf outputCountOf mixerCountOf eq div loadPositionOf inputPositionOf sub toUnsigned
+unfolding rows displacementOf displacedOf stepBetweenOf ofInt ofBits mul neg lt toSigned roundOf topologyOf reciprocalOf filterCountOf bypassCountOf outputCountOf mixerCountOf eq div loadPositionOf inputPositionOf sub toUnsigned
 cases = refl

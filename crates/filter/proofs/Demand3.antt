@@ -21,22 +21,22 @@ use Rattle.mixing.specs.Topology.{topologyOf, filterCountOf, outputCountOf, mix
 use Rattle.mixing.proofs.Facts.{filter-most, output-most, mixer-most}
 use Rattle.control.specs.declared.State.{State}
 use Rattle.control.specs.Registers.{startingState, effectiveCutoffOf, writeCutoffLowOf, writeCutoffHighOf, writeSignalRoutingOf, writeModeAndVolumeOf}
-use Rattle.control.specs.Block.{validOf, finiteFloats}
+use Rattle.control.specs.Block.{validOf, finiteFloatsOf}
 use Rattle.control.proofs.Valid.{valid-ranges, effective-within, floats-valid, low-valid, high-valid, routing-valid, mode-valid, starting-valid}
 use Rattle.controls.specs.declared.FilterControls.{FilterControls}
 use Rattle.controls.specs.declared.ControlCache.{ControlCache}
-use Rattle.controls.specs.Controls.{filterControlsOf, modeGainOf, outputControlsOf, controlsOf}
+use Rattle.controls.specs.Controls.{refreshFilterControlsOf, refreshModeOutputGainOf, refreshRegisterOutputStateOf, controlsOf}
 use Rattle.controls.specs.Judging.{judgeFilterOf, judgeModeOf, judgeControlsOf, finiteFilterOf, finiteOutputOf, finiteControlsOf}
 use Rattle.sample.specs.declared.Outputs.{Outputs}
 use Rattle.sample.specs.declared.Sampled.{Sampled}
 use Rattle.sample.specs.declared.Sampled.the-variants.{Taken, Refused}
-use Rattle.sample.specs.Sample.{summerSlotOf, sampleOf, judgeSampleOf, takenOf, advanceCoreOf, selectOf}
+use Rattle.sample.specs.Sample.{summerSlotOf, filterSampleOf, judgeSampleOf, takenOf, advanceFilterCoreOf, selectFilterOutputOf}
 use Rattle.sample.proofs.Valid.{finiteTaken, sample-kept}
 use Rattle.script.specs.declared.Event.{Event}
 use Rattle.script.specs.declared.Event.the-variants.{CutoffLow, CutoffHigh, Routing, Mode, Sample, Reset}
 use Rattle.filter.specs.declared.Core.{Core}
 use Rattle.filter.specs.declared.Fed.{Fed}
-use Rattle.filter.specs.Core.{freshTopologyOf, coreOf, judgeLentOf, judgeStateOf, judgeWriteOf, judgeCoreOf, countableOf, soundOf, settledOf, quietOf, withIntegrator, afterOf, startAnswerOf, startedOf, refreshedOf, reselectedOf, lowWrittenOf, highWrittenOf, routingWrittenOf, modeWrittenOf, resetOf, sampledOf, fedOf}
+use Rattle.filter.specs.Core.{freshTopologyOf, coreOf, judgeLentOf, judgeStateOf, judgeWriteOf, judgeCoreOf, countableOf, soundOf, settledOf, quietOf, withIntegrator, afterOf, startAnswerOf, coreStartOf, refreshedOf, reselectedOf, coreWriteCutoffLowOf, coreWriteCutoffHighOf, coreWriteSignalRoutingOf, coreWriteModeAndVolumeOf, coreResetOf, coreSampleOf, feedOf}
 use Rattle.filter.specs.Plain.{Plain, plainStart, plainChange, plainTaken, plainSample, plainStep, plainTrace}
 use Rattle.filter.specs.Lists.{coreTrace, shown, shownAll, Fresh, AllFresh}
 
@@ -101,25 +101,25 @@ module _ (bundle : List ℕ) (k : Core) (opened : checkOf bundle ≡ Done) (kept
       let e : k .topology ≡ freshTopologyOf t = rw (r, m) (ap (λ (c : Core). c .topology) (kept .fresh)) in
       ap (λ (x : MixingTopology). record { state = t; topology = x; controls = controlsOf bundle t }) e
 
-  low-changes : (v : ℕ) → Changes bundle k (writeCutoffLowOf (k .state) v) (quietOf (lowWrittenOf bundle k v))
-  unfolding lowWrittenOf refreshedOf
+  low-changes : (v : ℕ) → Changes bundle k (writeCutoffLowOf (k .state) v) (quietOf (coreWriteCutoffLowOf bundle k v))
+  unfolding coreWriteCutoffLowOf refreshedOf
   low-changes v = rw write-judged (settles bundle k (writeCutoffLowOf (k .state) v) _ kept (cutoff-new _ refl refl) (low-valid (k .state) (kept .valid) v))
 
-  high-changes : (v : ℕ) → Changes bundle k (writeCutoffHighOf (k .state) v) (quietOf (highWrittenOf bundle k v))
-  unfolding highWrittenOf refreshedOf
+  high-changes : (v : ℕ) → Changes bundle k (writeCutoffHighOf (k .state) v) (quietOf (coreWriteCutoffHighOf bundle k v))
+  unfolding coreWriteCutoffHighOf refreshedOf
   high-changes v = rw write-judged (settles bundle k (writeCutoffHighOf (k .state) v) _ kept (cutoff-new _ refl refl) (high-valid (k .state) (kept .valid) v))
 
-  routing-changes : (v : ℕ) → Changes bundle k (writeSignalRoutingOf (k .state) v) (quietOf (routingWrittenOf bundle k v))
-  unfolding routingWrittenOf refreshedOf
+  routing-changes : (v : ℕ) → Changes bundle k (writeSignalRoutingOf (k .state) v) (quietOf (coreWriteSignalRoutingOf bundle k v))
+  unfolding coreWriteSignalRoutingOf refreshedOf
   routing-changes v = rw write-judged (settles bundle k (writeSignalRoutingOf (k .state) v) _ kept refl (routing-valid (k .state) (kept .valid) v))
 
-  reset-changes : Changes bundle k startingState (quietOf (resetOf bundle k))
-  unfolding resetOf refreshedOf
+  reset-changes : Changes bundle k startingState (quietOf (coreResetOf bundle k))
+  unfolding coreResetOf refreshedOf
   reset-changes = rw opened (settles bundle k startingState _ kept refl starting-valid)
 
   -- a mode's write leaves the filter's controls
   abbrev kept-filter : FilterControls
-  kept-filter = filterControlsOf bundle (effectiveCutoffOf (k .state)) (k .state .registers .resonance)
+  kept-filter = refreshFilterControlsOf bundle (effectiveCutoffOf (k .state)) (k .state .registers .resonance)
 
   filter-fresh : k .controls .filter ≡ kept-filter
   unfolding controlsOf
@@ -135,20 +135,20 @@ module _ (bundle : List ℕ) (k : Core) (opened : checkOf bundle ≡ Done) (kept
 
     mode-judged :
         firstOf (judgeModeOf bundle (selected .registers) (effectiveCutoffOf (k .state)))
-        (unlessOf (finite (modeGainOf bundle (selected .registers) (effectiveCutoffOf (k .state))) && finiteOutputOf (outputControlsOf (selected .registers))) Domain)
+        (unlessOf (finite (refreshModeOutputGainOf bundle (selected .registers) (effectiveCutoffOf (k .state))) && finiteOutputOf (refreshRegisterOutputStateOf (selected .registers))) Domain)
         ≡ judgeControlsOf bundle selected
     unfolding judgeControlsOf controlsOf finiteControlsOf
     mode-judged = rw (filter-usable bundle (k .state) (kept .judged), filter-finite) refl
 
     mode-new :
         _≡_ {A = ControlCache}
-        (record { filter = k .controls .filter; «mode_output_gain» = modeGainOf bundle (selected .registers) (effectiveCutoffOf (k .state)); output = outputControlsOf (selected .registers) })
+        (record { filter = k .controls .filter; «mode_output_gain» = refreshModeOutputGainOf bundle (selected .registers) (effectiveCutoffOf (k .state)); output = refreshRegisterOutputStateOf (selected .registers) })
         (controlsOf bundle selected)
     unfolding controlsOf
     mode-new = rw filter-fresh refl
 
-    mode-changes : Changes bundle k selected (quietOf (modeWrittenOf bundle k v))
-    unfolding modeWrittenOf reselectedOf
+    mode-changes : Changes bundle k selected (quietOf (coreWriteModeAndVolumeOf bundle k v))
+    unfolding coreWriteModeAndVolumeOf reselectedOf
     mode-changes = rw (write-judged, mode-judged, mode-new) (settles bundle k selected (coreOf bundle selected) kept refl (mode-valid (k .state) (kept .valid) v))
 
 -- ---- a sample: the registers stay, so all that is kept stays
@@ -161,17 +161,17 @@ refuses (Refused answer) = not (isDoneOf answer)
 taken-refuses : (c : ControlCache) (count mode : ℕ) (moved : Substeps) → refuses (takenOf c count mode moved) ≡ true
 unfolding takenOf refuses
 taken-refuses c count mode NotFinite = refl
-taken-refuses c count mode (Settled a) = go (finite (selectOf c count mode (a .outputs))) _ _
+taken-refuses c count mode (Settled a) = go (finite (selectFilterOutputOf c count mode (a .outputs))) _ _
   where
     go : (t : Bool) (o : Outputs) (i : IntegratorState) → refuses (cond t (Taken o i) (Refused Domain)) ≡ true
     go true o i = refl
     go false o i = refl
 
-pub sample-refuses : (bundle curves : List ℕ) (slot : ℕ) (t : MixingTopology) (c : ControlCache) (mode : ℕ) (i : IntegratorState) (sum energy : Float) → refuses (sampleOf bundle curves slot t c mode i sum energy) ≡ true
-unfolding sampleOf refuses
+pub sample-refuses : (bundle curves : List ℕ) (slot : ℕ) (t : MixingTopology) (c : ControlCache) (mode : ℕ) (i : IntegratorState) (sum energy : Float) → refuses (filterSampleOf bundle curves slot t c mode i sum energy) ≡ true
+unfolding filterSampleOf refuses
 sample-refuses bundle curves slot t c mode i sum energy =
     let judged = judgeSampleOf bundle curves slot t i sum energy in
-    let moved = advanceCoreOf bundle curves slot t (c .filter) i sum energy in
+    let moved = advanceFilterCoreOf bundle curves slot t (c .filter) i sum energy in
     go judged (takenOf c (t .«filter_output_count») mode moved) (isDoneOf judged) refl (taken-refuses c (t .«filter_output_count») mode moved)
   where
     go : (judged : Answer) (x : Sampled) (d : Bool) → isDoneOf judged ≡ d → refuses x ≡ true → refuses (cond d x (Refused judged)) ≡ true
@@ -200,19 +200,19 @@ fresh-countable routing mode =
 
 module _ (bundle curves : List ℕ) (s : State) (sum energy : Float) (lent : judgeLentOf bundle curves ≡ Done) (valid : validOf s ≡ true) (judged : judgeControlsOf bundle s ≡ Done) where
   abbrev sampled : Sampled
-  sampled = sampleOf bundle curves (summerSlotOf (freshTopologyOf s)) (freshTopologyOf s) (controlsOf bundle s) (s .registers .mode) (s .integrator) sum energy
+  sampled = filterSampleOf bundle curves (summerSlotOf (freshTopologyOf s)) (freshTopologyOf s) (controlsOf bundle s) (s .registers .mode) (s .integrator) sum energy
 
   fresh-kept : Kept bundle (coreOf bundle s)
   fresh-kept = record { valid = valid; fresh = refl; judged = judged }
 
   fresh-sound : soundOf (controlsOf bundle s) ≡ true
-  unfolding controlsOf filterControlsOf
+  unfolding controlsOf refreshFilterControlsOf
   fresh-sound = rw (le-leb (effectiveCutoffOf s) 2047 (effective-within s), le-leb (s .registers .resonance) 15 (valid-ranges s valid .resonance)) (all-finite bundle s judged)
 
   core-judged : judgeCoreOf bundle curves (coreOf bundle s) ≡ Done
   core-judged = rw (lent, valid, fresh-countable (s .registers .routing) (s .registers .mode), fresh-sound) refl
 
-  after-kept : (i : IntegratorState) → finiteFloats i ≡ true → Kept bundle (record { state = withIntegrator s i; topology = freshTopologyOf s; controls = controlsOf bundle s })
+  after-kept : (i : IntegratorState) → finiteFloatsOf i ≡ true → Kept bundle (record { state = withIntegrator s i; topology = freshTopologyOf s; controls = controlsOf bundle s })
   unfolding controlsOf judgeControlsOf
   after-kept i f = record { valid = floats-valid s valid i f; fresh = refl; judged = judged }
 
@@ -229,15 +229,15 @@ module _ (bundle curves : List ℕ) (s : State) (sum energy : Float) (lent : jud
       go false h n = rw h (refl, fresh-kept)
 
   pub sample-plain : plainTaken s sampled ≡ plainSample bundle curves s sum energy
-  unfolding plainSample sampleOf judgeSampleOf topologyOf
+  unfolding plainSample filterSampleOf judgeSampleOf topologyOf
   sample-plain = go (finite sum && finite energy) refl
     where
       go : (f : Bool) → (finite sum && finite energy) ≡ f → plainTaken s sampled ≡ plainSample bundle curves s sum energy
       go true h = rw (h, le-leb (mixerCountOf (s .registers .routing) (s .registers .mode)) 7 (mixer-most (s .registers .routing) (s .registers .mode)), judged) refl
       go false h = rw h refl
 
-  sample-steps : Samples (sampledOf bundle curves (coreOf bundle s) sum energy) (plainSample bundle curves s sum energy)
-  unfolding sampledOf
+  sample-steps : Samples (coreSampleOf bundle curves (coreOf bundle s) sum energy) (plainSample bundle curves s sum energy)
+  unfolding coreSampleOf
   sample-steps =
       rw (core-judged, ← sample-plain)
       (after-taken sampled (sample-refuses bundle curves _ _ _ _ (s .integrator) sum energy)
@@ -246,7 +246,7 @@ module _ (bundle curves : List ℕ) (s : State) (sum energy : Float) (lent : jud
 -- ---- any event
 
 abbrev pub Steps : List ℕ → List ℕ → Core → Event → Type 0
-Steps bundle curves k e = (shown e (fedOf bundle curves k e) ≡ plainStep bundle curves (k .state) e) × Kept bundle (fedOf bundle curves k e .core)
+Steps bundle curves k e = (shown e (feedOf bundle curves k e) ≡ plainStep bundle curves (k .state) e) × Kept bundle (feedOf bundle curves k e .core)
 
 module _ (bundle curves : List ℕ) (lent : judgeLentOf bundle curves ≡ Done) where
   opened : checkOf bundle ≡ Done
@@ -273,7 +273,7 @@ module _ (bundle curves : List ℕ) (lent : judgeLentOf bundle curves ≡ Done) 
   unfolding coreTrace plainTrace shownAll
   agrees k [] kept = record { same = refl; fresh = tt }
   agrees k (e ∷ es) kept =
-      let r = fedOf bundle curves k e in
+      let r = feedOf bundle curves k e in
       let st = steps k e kept in
       let rest = agrees (r .core) es (st .1) in
       record {
@@ -300,9 +300,9 @@ started-kept bundle curves s h =
 -- DEMAND 3, the first half. For every bundle, curves, state and list of events: the start is answered as the plain machine answers it; and where it is not refused, every
 -- sample, state and refusal of the list is the plain machine's, and after each event all that is kept equals what is worked out afresh from the state.
 pub record Demand3 (bundle curves : List ℕ) (s : State) (es : List Event) : Type 0 where
-  pub start : startedOf bundle curves s .answer ≡ plainStart bundle curves s
-  pub same : plainStart bundle curves s ≡ Done → shownAll es (coreTrace bundle curves (startedOf bundle curves s .core) es) ≡ plainTrace bundle curves s es
-  pub fresh : plainStart bundle curves s ≡ Done → AllFresh bundle (coreTrace bundle curves (startedOf bundle curves s .core) es)
+  pub start : coreStartOf bundle curves s .answer ≡ plainStart bundle curves s
+  pub same : plainStart bundle curves s ≡ Done → shownAll es (coreTrace bundle curves (coreStartOf bundle curves s .core) es) ≡ plainTrace bundle curves s es
+  pub fresh : plainStart bundle curves s ≡ Done → AllFresh bundle (coreTrace bundle curves (coreStartOf bundle curves s .core) es)
 
 pub demand-3 : (bundle curves : List ℕ) (s : State) (es : List Event) → Demand3 bundle curves s es
 demand-3 bundle curves s es =

@@ -19,12 +19,12 @@ use Rattle.control.specs.declared.State.{State}
 use Rattle.control.specs.Registers.{startingState, effectiveCutoffOf, writeCutoffLowOf, writeCutoffHighOf, writeSignalRoutingOf, writeModeAndVolumeOf}
 use Rattle.control.specs.Block.{validOf}
 use Rattle.controls.specs.declared.ControlCache.{ControlCache}
-use Rattle.controls.specs.Controls.{modeGainOf, outputControlsOf, controlsOf}
+use Rattle.controls.specs.Controls.{refreshModeOutputGainOf, refreshRegisterOutputStateOf, controlsOf}
 use Rattle.controls.specs.Judging.{judgeModeOf, judgeControlsOf, finiteOutputOf, finiteControlsOf}
 use Rattle.sample.specs.declared.Outputs.{Outputs}
 use Rattle.sample.specs.declared.Sampled.{Sampled}
 use Rattle.sample.specs.declared.Sampled.the-variants.{Taken, Refused}
-use Rattle.sample.specs.Sample.{summerSlotOf, sampleOf}
+use Rattle.sample.specs.Sample.{summerSlotOf, filterSampleOf}
 use Rattle.script.specs.declared.Event.{Event}
 use Rattle.script.specs.declared.Event.the-variants.{CutoffLow, CutoffHigh, Routing, Mode, Sample, Reset}
 use Rattle.filter.specs.declared.Core.{Core}
@@ -72,8 +72,8 @@ judgeCoreOf bundle curves k = firstOf (judgeLentOf bundle curves) (unlessOf (val
 abbrev pub settledOf : Answer → Core → Core → Written
 settledOf answer old new = record { answer = answer; core = cond (isDoneOf answer) new old }
 
-abbrev pub judgedOf : Answer → Core → Written → Written
-judgedOf answer old written = cond (isDoneOf answer) written (record { answer = answer; core = old })
+abbrev pub guardedOf : Answer → Core → Written → Written
+guardedOf answer old written = cond (isDoneOf answer) written (record { answer = answer; core = old })
 
 abbrev pub noOutputs : Outputs
 noOutputs = record { high = f32 0; band = f32 0; low = f32 0; selected = f32 0 }
@@ -93,8 +93,8 @@ afterOf k (Refused answer) = record { answer = answer; outputs = noOutputs; core
 unfoldable pub startAnswerOf : List ℕ → List ℕ → State → Answer
 startAnswerOf bundle curves s = firstOf (judgeLentOf bundle curves) (firstOf (judgeStateOf s) (judgeControlsOf bundle s))
 
-abbrev pub startedOf : List ℕ → List ℕ → State → Written
-startedOf bundle curves s = record { answer = startAnswerOf bundle curves s; core = coreOf bundle s }
+abbrev pub coreStartOf : List ℕ → List ℕ → State → Written
+coreStartOf bundle curves s = record { answer = startAnswerOf bundle curves s; core = coreOf bundle s }
 
 -- ---- the writes and the reset
 
@@ -106,46 +106,46 @@ refreshedOf bundle k s t = settledOf (judgeControlsOf bundle s) k (record { stat
 unfoldable pub reselectedOf : List ℕ → Core → State → MixingTopology → Written
 reselectedOf bundle k s t =
     let effective = effectiveCutoffOf s in
-    let gain = modeGainOf bundle (s .registers) effective in
-    let output = outputControlsOf (s .registers) in
+    let gain = refreshModeOutputGainOf bundle (s .registers) effective in
+    let output = refreshRegisterOutputStateOf (s .registers) in
     settledOf (firstOf (judgeModeOf bundle (s .registers) effective) (unlessOf (finite gain && finiteOutputOf output) Domain)) k
     (record { state = s; topology = t; controls = record { filter = k .controls .filter; «mode_output_gain» = gain; output = output } })
 
 -- a write of the cutoff does not touch the topology
-unfoldable pub lowWrittenOf : List ℕ → Core → ℕ → Written
-lowWrittenOf bundle k value = judgedOf (judgeWriteOf bundle k) k (refreshedOf bundle k (writeCutoffLowOf (k .state) value) (k .topology))
+unfoldable pub coreWriteCutoffLowOf : List ℕ → Core → ℕ → Written
+coreWriteCutoffLowOf bundle k value = guardedOf (judgeWriteOf bundle k) k (refreshedOf bundle k (writeCutoffLowOf (k .state) value) (k .topology))
 
-unfoldable pub highWrittenOf : List ℕ → Core → ℕ → Written
-highWrittenOf bundle k value = judgedOf (judgeWriteOf bundle k) k (refreshedOf bundle k (writeCutoffHighOf (k .state) value) (k .topology))
+unfoldable pub coreWriteCutoffHighOf : List ℕ → Core → ℕ → Written
+coreWriteCutoffHighOf bundle k value = guardedOf (judgeWriteOf bundle k) k (refreshedOf bundle k (writeCutoffHighOf (k .state) value) (k .topology))
 
-unfoldable pub routingWrittenOf : List ℕ → Core → ℕ → Written
-routingWrittenOf bundle k value =
+unfoldable pub coreWriteSignalRoutingOf : List ℕ → Core → ℕ → Written
+coreWriteSignalRoutingOf bundle k value =
     let s = writeSignalRoutingOf (k .state) value in
-    judgedOf (judgeWriteOf bundle k) k (refreshedOf bundle k s (freshTopologyOf s))
+    guardedOf (judgeWriteOf bundle k) k (refreshedOf bundle k s (freshTopologyOf s))
 
-unfoldable pub modeWrittenOf : List ℕ → Core → ℕ → Written
-modeWrittenOf bundle k value =
+unfoldable pub coreWriteModeAndVolumeOf : List ℕ → Core → ℕ → Written
+coreWriteModeAndVolumeOf bundle k value =
     let s = writeModeAndVolumeOf (k .state) value in
-    judgedOf (judgeWriteOf bundle k) k (reselectedOf bundle k s (freshTopologyOf s))
+    guardedOf (judgeWriteOf bundle k) k (reselectedOf bundle k s (freshTopologyOf s))
 
-unfoldable pub resetOf : List ℕ → Core → Written
-resetOf bundle k = judgedOf (checkOf bundle) k (refreshedOf bundle k startingState (freshTopologyOf startingState))
+unfoldable pub coreResetOf : List ℕ → Core → Written
+coreResetOf bundle k = guardedOf (checkOf bundle) k (refreshedOf bundle k startingState (freshTopologyOf startingState))
 
 -- ---- the sample
 
-unfoldable pub sampledOf : List ℕ → List ℕ → Core → Float → Float → Fed
-sampledOf bundle curves k sum energy =
+unfoldable pub coreSampleOf : List ℕ → List ℕ → Core → Float → Float → Fed
+coreSampleOf bundle curves k sum energy =
     let judged = judgeCoreOf bundle curves k in
     cond (isDoneOf judged)
-    (afterOf k (sampleOf bundle curves (summerSlotOf (k .topology)) (k .topology) (k .controls) (k .state .registers .mode) (k .state .integrator) sum energy))
+    (afterOf k (filterSampleOf bundle curves (summerSlotOf (k .topology)) (k .topology) (k .controls) (k .state .registers .mode) (k .state .integrator) sum energy))
     (quietOf (record { answer = judged; core = k }))
 
 -- ---- any event
 
-abbrev pub fedOf : List ℕ → List ℕ → Core → Event → Fed
-fedOf bundle curves k (CutoffLow value) = quietOf (lowWrittenOf bundle k value)
-fedOf bundle curves k (CutoffHigh value) = quietOf (highWrittenOf bundle k value)
-fedOf bundle curves k (Routing value) = quietOf (routingWrittenOf bundle k value)
-fedOf bundle curves k (Mode value) = quietOf (modeWrittenOf bundle k value)
-fedOf bundle curves k (Sample sum energy) = sampledOf bundle curves k sum energy
-fedOf bundle curves k Reset = quietOf (resetOf bundle k)
+abbrev pub feedOf : List ℕ → List ℕ → Core → Event → Fed
+feedOf bundle curves k (CutoffLow value) = quietOf (coreWriteCutoffLowOf bundle k value)
+feedOf bundle curves k (CutoffHigh value) = quietOf (coreWriteCutoffHighOf bundle k value)
+feedOf bundle curves k (Routing value) = quietOf (coreWriteSignalRoutingOf bundle k value)
+feedOf bundle curves k (Mode value) = quietOf (coreWriteModeAndVolumeOf bundle k value)
+feedOf bundle curves k (Sample sum energy) = coreSampleOf bundle curves k sum energy
+feedOf bundle curves k Reset = quietOf (coreResetOf bundle k)

@@ -9,13 +9,13 @@ use Rattle.script.specs.declared.Event.{Event}
 use Rattle.script.specs.declared.Event.the-variants.{CutoffLow, CutoffHigh, Routing, Mode, Sample, Reset}
 use Rattle.filter.specs.declared.Core.{Core}
 use Rattle.filter.specs.declared.Fed.{Fed}
-use Rattle.filter.specs.Core.{coreOf, fedOf}
+use Rattle.filter.specs.Core.{coreOf, feedOf}
 use Rattle.filter.specs.Plain.{Plain}
 
--- What the calls answer, from the first to the last: `fedOf` is what `Core::feed` and the methods under it are proved to give.
+-- What the calls answer, from the first to the last: `feedOf` is what `Core::feed` and the methods under it are proved to give.
 unfoldable pub coreTrace : List ℕ → List ℕ → Core → List Event → List Fed
 coreTrace bundle curves k [] = []
-coreTrace bundle curves k (e ∷ es) = fedOf bundle curves k e ∷ coreTrace bundle curves (fedOf bundle curves k e .core) es
+coreTrace bundle curves k (e ∷ es) = feedOf bundle curves k e ∷ coreTrace bundle curves (feedOf bundle curves k e .core) es
 
 -- Its outcome without what is kept: the answer, the sample if one was taken, the state.
 abbrev pub isSample : Event → Bool

@@ -20,7 +20,7 @@ use Rattle.controls.specs.Judging.{judgeControlsOf}
 use Rattle.sample.specs.declared.Outputs.{Outputs}
 use Rattle.sample.specs.declared.Sampled.{Sampled}
 use Rattle.sample.specs.declared.Sampled.the-variants.{Taken, Refused}
-use Rattle.sample.specs.Sample.{summerSlotOf, sampleOf}
+use Rattle.sample.specs.Sample.{summerSlotOf, filterSampleOf}
 use Rattle.script.specs.declared.Event.{Event}
 use Rattle.script.specs.declared.Event.the-variants.{CutoffLow, CutoffHigh, Routing, Mode, Sample, Reset}
 
@@ -59,7 +59,7 @@ plainSample bundle curves s sum energy =
     (firstOf (unlessOf (leb (topology .«mixer_input_count») 7) MixerInputs)
     (judgeControlsOf bundle s)) in
     cond (isDoneOf judged)
-    (plainTaken s (sampleOf bundle curves (summerSlotOf topology) topology controls (s .registers .mode) (s .integrator) sum energy))
+    (plainTaken s (filterSampleOf bundle curves (summerSlotOf topology) topology controls (s .registers .mode) (s .integrator) sum energy))
     (refusedAt s judged)
 
 abbrev pub plainStep : List ℕ → List ℕ → State → Event → Plain

@@ -86,7 +86,7 @@ fn settled(answer: Answer, old: Core, new: Core) -> Written
 }
 
 fn judged(answer: Answer, taken: Core, written: Written) -> Written
-    ensures { λ r. ⌜ r ≡ F.judgedOf answer taken written ⌝ }
+    ensures { λ r. ⌜ r ≡ F.guardedOf answer taken written ⌝ }
 {
     if answers::is_done(answer) {
         return written;
@@ -140,7 +140,7 @@ fn after(before: Core, sampled: Sampled) -> Fed
 impl Core {
     // Works the core of a state out: the first core of a list of events. Refuses 1, 2, 4, 10, 3, 6.
     pub fn start(bundle: &[u8], curves: &[u8], state: State) -> Written
-        ensures { λ r. ⌜ r ≡ F.startedOf (now (bundle .entry)) (now (curves .entry)) state ⌝ }
+        ensures { λ r. ⌜ r ≡ F.coreStartOf (now (bundle .entry)) (now (curves .entry)) state ⌝ }
     {
         let fresh = controls::refresh(bundle, state);
         let refreshed = fresh.answer;
@@ -223,7 +223,7 @@ impl Core {
 
     // FC LO. Refuses 1, 2, 10, 3, 6, as each write does.
     pub fn write_cutoff_low(self, bundle: &[u8], value: u8) -> Written
-        ensures { λ r. ⌜ r ≡ F.lowWrittenOf (now (bundle .entry)) self value ⌝ }
+        ensures { λ r. ⌜ r ≡ F.coreWriteCutoffLowOf (now (bundle .entry)) self value ⌝ }
     {
         let state = self.state;
         let topology = self.topology;
@@ -237,7 +237,7 @@ impl Core {
 
     // FC HI.
     pub fn write_cutoff_high(self, bundle: &[u8], value: u8) -> Written
-        ensures { λ r. ⌜ r ≡ F.highWrittenOf (now (bundle .entry)) self value ⌝ }
+        ensures { λ r. ⌜ r ≡ F.coreWriteCutoffHighOf (now (bundle .entry)) self value ⌝ }
     {
         let state = self.state;
         let topology = self.topology;
@@ -251,7 +251,7 @@ impl Core {
 
     // RES/FILT: the topology follows.
     pub fn write_signal_routing(self, bundle: &[u8], value: u8) -> Written
-        ensures { λ r. ⌜ r ≡ F.routingWrittenOf (now (bundle .entry)) self value ⌝ }
+        ensures { λ r. ⌜ r ≡ F.coreWriteSignalRoutingOf (now (bundle .entry)) self value ⌝ }
     {
         let state = self.state;
         let rerouted = state.write_signal_routing(value);
@@ -265,7 +265,7 @@ impl Core {
 
     // MODE/VOL: the topology follows, the filter's controls stay.
     pub fn write_mode_and_volume(self, bundle: &[u8], value: u8) -> Written
-        ensures { λ r. ⌜ r ≡ F.modeWrittenOf (now (bundle .entry)) self value ⌝ }
+        ensures { λ r. ⌜ r ≡ F.coreWriteModeAndVolumeOf (now (bundle .entry)) self value ⌝ }
     {
         let state = self.state;
         let next = state.write_mode_and_volume(value);
@@ -279,7 +279,7 @@ impl Core {
 
     // The core of the starting value, whatever the core was. Refuses 1, 2, 3, 6.
     pub fn reset(self, bundle: &[u8]) -> Written
-        ensures { λ r. ⌜ r ≡ F.resetOf (now (bundle .entry)) self ⌝ }
+        ensures { λ r. ⌜ r ≡ F.coreResetOf (now (bundle .entry)) self ⌝ }
     {
         let start = State::new();
         let topology = routed(start);
@@ -292,7 +292,7 @@ impl Core {
 
     // One sample. Refuses 1, 2, 4, 10, 5, 9, 3, 6.
     pub fn sample(self, bundle: &[u8], curves: &[u8], input_sum: f32, source_energy: f32) -> Fed
-        ensures { λ r. ⌜ r ≡ F.sampledOf (now (bundle .entry)) (now (curves .entry)) self «input_sum» «source_energy» ⌝ }
+        ensures { λ r. ⌜ r ≡ F.coreSampleOf (now (bundle .entry)) (now (curves .entry)) self «input_sum» «source_energy» ⌝ }
     {
         let judged = self.judge_core(bundle, curves);
         if answers::is_done(judged) {
@@ -322,7 +322,7 @@ impl Core {
 
     // Any event.
     pub fn feed(self, bundle: &[u8], curves: &[u8], event: Event) -> Fed
-        ensures { λ r. ⌜ r ≡ F.fedOf (now (bundle .entry)) (now (curves .entry)) self event ⌝ }
+        ensures { λ r. ⌜ r ≡ F.feedOf (now (bundle .entry)) (now (curves .entry)) self event ⌝ }
     {
         match event {
             Event::CutoffLow(value) => quiet(self.write_cutoff_low(bundle, value)),

@@ -13,11 +13,11 @@ use Rattle.constants.specs.Values as K
 use Rattle.floats.specs.Arithmetic.{_⊕_, _⊖_, _⊗_, f32}
 use Rattle.floats.proofs.Sized.{Sized, sized-finite, sized-more, literal-sized, ofInt-sized, quotient-sized, cond-sized, add-sized, sub-sized, mul-sized}
 use Rattle.response.specs.Bits.{bit}
-use Rattle.response.specs.Levels.{addIf, between, cutoffPositionOf, outputCommonModeOf}
+use Rattle.response.specs.Levels.{addIf, interpolateOf, cutoffPositionOf, filterOutputCommonModeOf}
 use Rattle.wire.proofs.Laws.{le-or-lt, both}
 use Rattle.control.specs.declared.FilterRegisters.{FilterRegisters}
 use Rattle.controls.specs.Judging.{finiteOutputOf}
-use Rattle.controls.specs.Controls.{outputControlsOf, highPassLowCouplingOf, bandPassLowCouplingOf, resonancePositionOf, feedbackScaleOf, modulationScaleOf, liftPositionOf, resonanceOutputGainOf}
+use Rattle.controls.specs.Controls.{refreshRegisterOutputStateOf, highPassLowCouplingOf, bandPassLowCouplingOf, resonancePartOf, feedbackScaleOf, modulationScaleOf, liftPositionOf, resonanceOutputGainOf}
 
 -- ---- a cutoff of 16 bits, and a resonance or a volume of 8
 
@@ -27,14 +27,14 @@ unfolding ofBits
 position-sized n h = quotient-sized binary32 33 2047 (lit< tt) (lit≤ tt) (omega arith) (record { value = (refl, refl) })
 
 -- 255 / 15 is 17. The volume's fraction is worked out as the resonance's position is.
-fraction-sized : (n : ℕ) → n < 256 → Sized (resonancePositionOf n) 17
+fraction-sized : (n : ℕ) → n < 256 → Sized (resonancePartOf n) 17
 unfolding ofBits
 fraction-sized n h = quotient-sized binary32 17 15 (lit< tt) (lit≤ tt) (omega arith) (record { value = (refl, refl) })
 
 -- ---- the output's common mode
 
 -- Between two levels of at most 1, by the cutoff's position.
-between-sized : {lower upper fraction : Float} → Sized lower 1 → Sized upper 1 → Sized fraction 33 → Sized (between lower upper fraction) 67
+between-sized : {lower upper fraction : Float} → Sized lower 1 → Sized upper 1 → Sized fraction 33 → Sized (interpolateOf lower upper fraction) 67
 between-sized l u p = add-sized binary32 (lit≤ tt) l (mul-sized binary32 (lit≤ tt) (sub-sized binary32 (lit≤ tt) u l) p)
 
 -- A bit of the mode adds its level or nothing.
@@ -42,8 +42,8 @@ addIf-sized : (on : Bool) {sum x : Float} {j k : ℕ} → j + k ≤ 2 ^ 24 → S
 addIf-sized on K u v = cond-sized on (add-sized binary32 K u v) (sized-more (omega arith) u)
 
 -- The three levels are at most 67 each.
-common-sized : (mode cutoff : ℕ) → cutoff < 65536 → Sized (outputCommonModeOf mode cutoff) 201
-unfolding outputCommonModeOf ofBits
+common-sized : (mode cutoff : ℕ) → cutoff < 65536 → Sized (filterOutputCommonModeOf mode cutoff) 201
+unfolding filterOutputCommonModeOf ofBits
 common-sized mode cutoff h =
     let p = position-sized cutoff h in
     let low = between-sized (literal-sized K.FILTER-LOWPASS-COMMON-MODE-FC-0 1 (lit≤ tt)) (literal-sized K.FILTER-LOWPASS-COMMON-MODE-FC-2047 1 (lit≤ tt)) p in
@@ -63,8 +63,8 @@ offset-finite v h =
     (mul-sized binary32 (lit≤ tt) (literal-sized K.SID-MIXER-TWO-VOICE-VOLUME-GAIN-PER-CODE 1 (lit≤ tt)) (sub-sized binary32 (lit≤ tt) volume (literal-sized (f32 0x4110_0000) 9 (lit≤ tt)))))
 
 -- Every number of `refresh_register_output_state` is finite.
-pub output-finite : (r : FilterRegisters) → r .volume < 256 → r .cutoff < 65536 → finiteOutputOf (outputControlsOf r) ≡ true
-unfolding finiteOutputOf outputControlsOf ofBits
+pub output-finite : (r : FilterRegisters) → r .volume < 256 → r .cutoff < 65536 → finiteOutputOf (refreshRegisterOutputStateOf r) ≡ true
+unfolding finiteOutputOf refreshRegisterOutputStateOf ofBits
 output-finite r hv hc =
     let common = common-sized (r .mode) (r .cutoff) hc in
     let fraction = fraction-sized (r .volume) hv in
@@ -80,17 +80,17 @@ output-finite r hv hc =
 -- ---- a resonance's feedback and modulation
 
 module _ (r : ℕ) (h : r < 256) where
-  pub position-finite : finite (resonancePositionOf r) ≡ true
+  pub position-finite : finite (resonancePartOf r) ≡ true
   position-finite = sized-finite (fraction-sized r h)
 
-  pub feedback-finite : finite (feedbackScaleOf (resonancePositionOf r)) ≡ true
+  pub feedback-finite : finite (feedbackScaleOf (resonancePartOf r)) ≡ true
   unfolding ofBits
   feedback-finite =
       let base = literal-sized (f32 0x3f47_ae14) 1 (lit≤ tt) in
       let slope = literal-sized (f32 0x3e99_999a) 1 (lit≤ tt) in
       sized-finite (add-sized binary32 (lit≤ tt) base (mul-sized binary32 (lit≤ tt) slope (fraction-sized r h)))
 
-  pub modulation-finite : finite (modulationScaleOf (resonancePositionOf r)) ≡ true
+  pub modulation-finite : finite (modulationScaleOf (resonancePartOf r)) ≡ true
   unfolding ofBits
   modulation-finite =
       let floor = literal-sized K.FILTER-SOURCE-RESONANCE-FLOOR 1 (lit≤ tt) in
@@ -123,7 +123,7 @@ band-couplings : below (λ n. finite (bandPassLowCouplingOf (codeOf n))) 2048 �
 unfolding below ofInt ofBits mul add div
 band-couplings = refl
 
-lifts : below (λ r. finite (resonanceOutputGainOf (liftPositionOf (resonancePositionOf r)))) 256 ≡ true
+lifts : below (λ r. finite (resonanceOutputGainOf (liftPositionOf (resonancePartOf r)))) 256 ≡ true
 unfolding below ofInt ofBits mul add sub div lt
 lifts = refl
 
@@ -133,5 +133,5 @@ high-coupling-finite n h = below-at (λ n. finite (highPassLowCouplingOf (codeOf
 pub band-coupling-finite : (n : ℕ) → n < 2048 → finite (bandPassLowCouplingOf (codeOf n)) ≡ true
 band-coupling-finite n h = below-at (λ n. finite (bandPassLowCouplingOf (codeOf n))) 2048 band-couplings n h
 
-pub lift-finite : (r : ℕ) → r < 256 → finite (resonanceOutputGainOf (liftPositionOf (resonancePositionOf r))) ≡ true
-lift-finite r h = below-at (λ r. finite (resonanceOutputGainOf (liftPositionOf (resonancePositionOf r)))) 256 lifts r h
+pub lift-finite : (r : ℕ) → r < 256 → finite (resonanceOutputGainOf (liftPositionOf (resonancePartOf r))) ≡ true
+lift-finite r h = below-at (λ r. finite (resonanceOutputGainOf (liftPositionOf (resonancePartOf r)))) 256 lifts r h

@@ -10,7 +10,7 @@ use Rattle.integrator.specs.declared.Coefficients.{Coefficients}
 use Rattle.integrator.specs.declared.IntegratorState.{IntegratorState}
 use Rattle.integrator.specs.declared.Substeps.{Substeps}
 use Rattle.integrator.specs.declared.Substeps.the-variants.{Settled, NotFinite}
-use Rattle.integrator.specs.Integrator.{advanceOf, highFinite, settledOf, substepOf, thenOf, fourSubstepsOf}
+use Rattle.integrator.specs.Integrator.{advanceOf, highFinite, inDomain, substepOf, thenOf, fourSubstepsOf}
 use Rattle.integrator.specs.Tried.{triedOf, triedAfter, withFiniteLow}
 
 -- ---- one capacitor
@@ -86,7 +86,7 @@ module _ (driven : Float) (k : Coefficients) where
 
   -- a substep is one that was tried, if low's next state is finite
   substep-is : (s : IntegratorState) → finite (s .«filter_source_energy») ≡ true → substepOf s driven k ≡ cond (lowFinite (step s)) (tried s) NotFinite
-  unfolding substepOf triedOf settledOf advanceOf
+  unfolding substepOf triedOf inDomain advanceOf
   substep-is s e = tests _ _ _ _ _ _ e (output-finite _ _) (output-finite _ _)
 
   still-lost : (s : IntegratorState) → finite (s .«low_state») ≡ false → lowFinite (step s) ≡ false
@@ -156,5 +156,5 @@ module _ (s : IntegratorState) (driven : Float) (k : Coefficients) where
   four-told e = row-told driven k 3 s e
 
   pub four-none : finite (s .«filter_source_energy») ≡ false → NotFinite ≡ fourSubstepsOf s driven k
-  unfolding fourSubstepsOf thenOf substepOf settledOf advanceOf
+  unfolding fourSubstepsOf thenOf substepOf inDomain advanceOf
   four-none e = rw (no-energy (Settled (advanceOf s driven k)) _ _ _ _ _ e)

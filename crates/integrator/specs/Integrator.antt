@@ -46,14 +46,14 @@ stateFinite s = finite (s .«band_state») && finite (s .«low_state») && finit
 abbrev pub highFinite : Advanced → Bool
 highFinite a = finite (a .outputs .«high_pass»)
 
-unfoldable pub settledOf : Advanced → Bool
-settledOf a = stateFinite (a .state) && highFinite a && finite (a .outputs .«band_pass») && finite (a .outputs .«low_pass»)
+unfoldable pub inDomain : Advanced → Bool
+inDomain a = stateFinite (a .state) && highFinite a && finite (a .outputs .«band_pass») && finite (a .outputs .«low_pass»)
 
 -- one substep, and whether it stayed in the domain
 unfoldable pub substepOf : IntegratorState → Float → Coefficients → Substeps
 substepOf s driven-input k =
     let a = advanceOf s driven-input k in
-    cond (settledOf a) (Settled a) NotFinite
+    cond (inDomain a) (Settled a) NotFinite
 
 -- a further one, where the last one stayed
 unfoldable pub thenOf : Substeps → Float → Coefficients → Substeps

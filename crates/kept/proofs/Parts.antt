@@ -16,13 +16,13 @@ use Rattle.answers.specs.declared.Answer.the-variants.{Done, Domain}
 use Rattle.answers.specs.declared.Buffer.the-variants.{Bundle}
 use Rattle.answers.specs.Answers.{isDoneOf, firstOf, unlessOf}
 use Rattle.answers.proofs.Laws.{done-is}
-use Rattle.wire.specs.Wire.{usable, usableAt, u32At}
+use Rattle.wire.specs.Wire.{usableOf, usableAt, u32At}
 use Rattle.wire.proofs.Magnitude.{atMost, usable-is}
 use Rattle.bundle.specs.Opening.{entryAt, judgePlacesOf}
 use Rattle.bundle.proofs.Laws.{judge-done}
 use Rattle.control.specs.declared.State.{State}
 use Rattle.control.specs.Registers.{displacedOf, effectiveCutoffOf}
-use Rattle.controls.specs.Controls.{integratorGainOf, filterControlsOf, modeGainOf, outputControlsOf, controlsOf}
+use Rattle.controls.specs.Controls.{integratorGainOf, refreshFilterControlsOf, refreshModeOutputGainOf, refreshRegisterOutputStateOf, controlsOf}
 use Rattle.controls.specs.Judging.{filterPlacesOf, judgeFilterOf, judgeModeOf, allFinite, finiteFilterOf, finiteOutputOf, finiteControlsOf, judgeControlsOf}
 use Rattle.kept.specs.Kept.{inputDrives, feedbackDrives, judgeGainOf}
 use Rattle.finite.proofs.Finite.{high-coupling-finite, band-coupling-finite, position-finite, feedback-finite, modulation-finite, lift-finite}
@@ -32,7 +32,7 @@ at-most-finite k nan e = e
 at-most-finite k (inf s) e = e
 at-most-finite k (fin s m e) h = refl
 
-usable-finite : (b : ℕ) → usable b ≡ true → finite (ofBits binary32 b) ≡ true
+usable-finite : (b : ℕ) → usableOf b ≡ true → finite (ofBits binary32 b) ≡ true
 usable-finite b e = at-most-finite 1024 (ofBits binary32 b) (sym (usable-is b) ∙ e)
 
 drives-finite : (allFinite inputDrives && allFinite feedbackDrives) ≡ true
@@ -44,8 +44,8 @@ module _ (bundle : List ℕ) (code resonance : ℕ) where
   unfolding judgeFilterOf
   entry d i h = usable-finite (u32At bundle (getD (filterPlacesOf code resonance) i 0)) (judge-done Bundle bundle (filterPlacesOf code resonance) d i h)
 
-  pub filter-finite : code < 2048 → resonance < 256 → judgeFilterOf bundle code resonance ≡ Done → finiteFilterOf (filterControlsOf bundle code resonance) ≡ true
-  unfolding finiteFilterOf filterControlsOf integratorGainOf ofBits
+  pub filter-finite : code < 2048 → resonance < 256 → judgeFilterOf bundle code resonance ≡ Done → finiteFilterOf (refreshFilterControlsOf bundle code resonance) ≡ true
+  unfolding finiteFilterOf refreshFilterControlsOf integratorGainOf ofBits
   filter-finite c r d =
       simp (
         entry d 0 (lit≤ tt),

@@ -15,12 +15,12 @@ use Rattle.bundle.specs.declared.Read.{Read}
 use Rattle.bundle.specs.Layout.{highpassLoadingPlace, directionalPowerPlace}
 use Rattle.bundle.specs.Opening.{entryAt}
 use Rattle.bundle.specs.Reading.{readOf}
-use Rattle.response.specs.Gain.{singleOf, modeIndexOf}
+use Rattle.response.specs.Gain.{isSingleModeOf, modeIndexOf}
 use Rattle.control.specs.declared.FilterRegisters.{FilterRegisters}
 use Rattle.controls.specs.declared.FilterControls.{FilterControls}
 use Rattle.kept.specs.declared.CoreControls.{CoreControls}
 use Rattle.kept.specs.declared.CoreRefreshed.{CoreRefreshed}
-use Rattle.controls.specs.Controls.{sixteen, filterControlsOf, directionalOf, modeGainOf, outputControlsOf}
+use Rattle.controls.specs.Controls.{sixteen, refreshFilterControlsOf, directionalOf, refreshModeOutputGainOf, refreshRegisterOutputStateOf}
 use Rattle.controls.specs.Judging.{judgeFilterOf, judgeIfOf, judgeModeOf, finiteOutputOf}
 
 -- ---- `refresh_filter_controls`
@@ -46,7 +46,7 @@ feedbackDrives = sixteen (λ bin. getD K.FILTER-FEEDBACK-DRIVE bin nan)
 
 unfoldable pub coreRefreshedOf : List ℕ → ℕ → ℕ → CoreRefreshed
 coreRefreshedOf bundle cutoff resonance =
-    let f = filterControlsOf bundle cutoff resonance in
+    let f = refreshFilterControlsOf bundle cutoff resonance in
     record { «integrator_gain» = f .«integrator_gain»; core = coreControlsOf f }
 
 -- the floats of sixteen words
@@ -67,16 +67,16 @@ readLoadingOf bundle m effective =
 abbrev pub readDirectionalOf : List ℕ → FilterRegisters → Read
 readDirectionalOf bundle r =
     let m = r .mode % 8 in
-    readOf (judgeIfOf (singleOf m) bundle (directionalPowerPlace (modeIndexOf m) (r .cutoff) (r .«cutoff_dac_displacement_codes»))) (directionalOf bundle r)
+    readOf (judgeIfOf (isSingleModeOf m) bundle (directionalPowerPlace (modeIndexOf m) (r .cutoff) (r .«cutoff_dac_displacement_codes»))) (directionalOf bundle r)
 
 abbrev pub readGainOf : List ℕ → FilterRegisters → ℕ → Read
-readGainOf bundle r effective = readOf (judgeModeOf bundle r effective) (modeGainOf bundle r effective)
+readGainOf bundle r effective = readOf (judgeModeOf bundle r effective) (refreshModeOutputGainOf bundle r effective)
 
 -- the entries, then the domain of what both calls work out
 unfoldable pub judgeGainOf : List ℕ → FilterRegisters → ℕ → Answer
 judgeGainOf bundle r effective =
     firstOf (judgeModeOf bundle r effective)
-    (unlessOf (finite (modeGainOf bundle r effective) && finiteOutputOf (outputControlsOf r)) Domain)
+    (unlessOf (finite (refreshModeOutputGainOf bundle r effective) && finiteOutputOf (refreshRegisterOutputStateOf r)) Domain)
 
 abbrev pub gainOf : List ℕ → FilterRegisters → ℕ → Read
-gainOf bundle r effective = readOf (judgeGainOf bundle r effective) (modeGainOf bundle r effective)
+gainOf bundle r effective = readOf (judgeGainOf bundle r effective) (refreshModeOutputGainOf bundle r effective)

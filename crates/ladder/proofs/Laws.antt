@@ -14,7 +14,7 @@ use lib.Ieee.{Float, nan, binary32, toBits}
 use borrow.Author.Tests.{eqb-true, eqb-false, eq-eqb, ne-eqb}
 use Rattle.wire.specs.Wire.{floatBytes, putAt, rows}
 use Rattle.wire.proofs.Laws.{length-bytesOf, putAt-whole, length-rows, rows-put}
-use Rattle.ladder.specs.Arithmetic.{_⊕_, _⊖_, _⊗_}
+use Rattle.ladder.specs.Arithmetic.{_⊞_, _⊟_, _⊠_}
 use Rattle.ladder.specs.Ladder.{at, tabulated, sumOf, nextRowOf, rowAt, resultFrom}
 
 -- ---- lists
@@ -83,7 +83,7 @@ tabulated-one z v i h =
 
 -- ---- sums
 
-pub sum-more : (f : ℕ → Float) (i : ℕ) → sumOf f i ⊕ f i ≡ sumOf f (i + 1)
+pub sum-more : (f : ℕ → Float) (i : ℕ) → sumOf f i ⊞ f i ≡ sumOf f (i + 1)
 unfolding sumOf
 sum-more f i = rw add-one
 
@@ -98,7 +98,7 @@ row-next lower diagonal upper rhs zero h = absurd (omega arith)
 row-next lower diagonal upper rhs (suc i) h = let q : suc i - 1 ≡ i = omega arith in rw q
 
 -- a row from the row below it
-pub result-row : (c d : List Float) (i : ℕ) {x : Float} → i < 11 → x ≡ resultFrom c d (11 - (i + 1)) (i + 1) → at d i ⊖ at c i ⊗ x ≡ resultFrom c d (11 - i) i
+pub result-row : (c d : List Float) (i : ℕ) {x : Float} → i < 11 → x ≡ resultFrom c d (11 - (i + 1)) (i + 1) → at d i ⊟ at c i ⊠ x ≡ resultFrom c d (11 - i) i
 unfolding resultFrom
 result-row c d i h e = let q : 11 - i ≡ suc (11 - (i + 1)) = omega arith in rw (e, q, add-one)
 

@@ -2,7 +2,7 @@
 ghost use mathlib.Core.Path.{_≡_};
 ghost use Prim.Native.Nat.{_<_, _≤_};
 ghost use lib.ListN.{length};
-ghost use Rattle.ladder.specs.Ladder.{firstRowOf, nextRowOf, positionOf, cutoffScaleOf, sweepOf, substituteOf, solveOf, diagonalOf, driveOf, drivenLevelOf, drivenLevelsOf, totalOf, normalisedOf, weightsOf, valueOf};
+ghost use Rattle.ladder.specs.Ladder.{firstRowOf, nextRowOf, positionOf, cutoffScaleOf, sweepOf, substituteOf, solveOf, diagonalOf, rightSideOf, drivenLevelOf, drivenLevelsOf, totalOf, normalisedOf, weightsOf, valueOf};
 ghost use Rattle.ladder.specs.Calls.{allFiniteOf, judgeOf, settleNodesOf, settleLevelOf, solveTridiagonalOf, ladderWeightsOf, ladderValueOf, positionsFiniteOf, positionBytesOf, buildCutoffControlPositionsOf};
 use answers::Answer;
 
@@ -108,7 +108,7 @@ fn diagonal(source: f64, terminated: bool) -> [f64; 12]
 // The right side when one node's branch is driven.
 fn drive(source: f64, active: usize) -> [f64; 12]
     requires { ⌜ active < 12 ⌝ }
-    ensures { λ r. ⌜ r ≡ driveOf source active ⌝ }
+    ensures { λ r. ⌜ r ≡ rightSideOf source active ⌝ }
 {
     let mut rhs = [0.0; 12];
     rhs[active] = 0.0 + source;

@@ -1,7 +1,7 @@
 -- What the comparison asks of the direct calls.
 use Rattle.answers.specs.Answers.{numberOf, bufferOf, placeOf}
 use Rattle.direct.specs.declared.Valued.{Valued}
-use Rattle.direct.specs.declared.Stepped.{Stepped}
+use Rattle.direct.specs.declared.Substepped.{Substepped}
 use Rattle.direct.specs.declared.Routed.{Routed}
 use Rattle.direct.specs.declared.Binned.{Binned}
 use Rattle.probe.specs.declared.calls.Reply.{Reply}
@@ -14,7 +14,7 @@ abbrev pub replyOf : Valued → Reply
 replyOf r = record { number = numberOf (r .answer); buffer = bufferOf (r .answer); place = placeOf (r .answer); value = r .value }
 
 -- the other three refuse with a number alone
-abbrev pub stepReplyOf : Stepped → StepReply
+abbrev pub stepReplyOf : Substepped → StepReply
 stepReplyOf r = record { number = numberOf (r .answer); advanced = r .advanced }
 
 abbrev pub routeReplyOf : Routed → RouteReply

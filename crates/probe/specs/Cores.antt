@@ -6,11 +6,11 @@ use mir.Val.{toZ, ofZ}
 use Rattle.answers.specs.declared.Answer.the-variants.{Script}
 use Rattle.answers.specs.Answers.{numberOf, bufferOf, placeOf}
 use Rattle.control.specs.declared.FilterRegisters.{FilterRegisters}
-use Rattle.script.specs.declared.Decoded.{Decoded}
-use Rattle.script.specs.declared.Decoded.the-variants.{Readable, Unreadable}
+use Rattle.script.specs.declared.DecodedEvent.{DecodedEvent}
+use Rattle.script.specs.declared.DecodedEvent.the-variants.{Readable, Unreadable}
 use Rattle.filter.specs.declared.Core.{Core}
 use Rattle.filter.specs.declared.Fed.{Fed}
-use Rattle.filter.specs.Core.{noOutputs, fedOf}
+use Rattle.filter.specs.Core.{noOutputs, feedOf}
 use Rattle.probe.specs.declared.cores.Registers.{Registers}
 use Rattle.probe.specs.declared.cores.Handed.{Handed}
 use Rattle.probe.specs.declared.cores.Given.{Given}
@@ -40,8 +40,8 @@ registeredOf r = record {
   volume = r .volume;
 }
 
-abbrev pub coreOf : Handed → Core
-coreOf h = record { state = record { registers = registersOf (h .registers); integrator = h .integrator }; topology = h .topology; controls = h .controls }
+abbrev pub handedCoreOf : Handed → Core
+handedCoreOf h = record { state = record { registers = registersOf (h .registers); integrator = h .integrator }; topology = h .topology; controls = h .controls }
 
 abbrev pub handedOf : Core → Handed
 handedOf k = record { registers = registeredOf (k .state .registers); integrator = k .state .integrator; topology = k .topology; controls = k .controls }
@@ -51,6 +51,6 @@ abbrev pub givenOf : Fed → Given
 givenOf f = record { number = numberOf (f .answer); buffer = bufferOf (f .answer); place = placeOf (f .answer); outputs = f .outputs; core = handedOf (f .core) }
 
 -- the event, and 7 where there is none
-abbrev pub fedAtOf : List ℕ → List ℕ → Core → Decoded → Fed
-fedAtOf bundle curves k (Readable e) = fedOf bundle curves k e
+abbrev pub fedAtOf : List ℕ → List ℕ → Core → DecodedEvent → Fed
+fedAtOf bundle curves k (Readable e) = feedOf bundle curves k e
 fedAtOf bundle curves k Unreadable = record { answer = Script; outputs = noOutputs; core = k }

@@ -4,8 +4,8 @@ use mathlib.Core.Bool.{Bool, true, false, cond}
 use mathlib.Core.List.{List}
 use lib.Dec.{eqb}
 use Rattle.control.specs.declared.State.{State}
-use Rattle.control.specs.declared.Decoded.{Decoded}
-use Rattle.control.specs.declared.Decoded.the-variants.{Valid, Invalid}
+use Rattle.control.specs.declared.DecodedState.{DecodedState}
+use Rattle.control.specs.declared.DecodedState.the-variants.{Valid, Invalid}
 use Rattle.control.specs.Registers.{effectiveCutoffOf, startingState, writeCutoffLowOf, writeCutoffHighOf, writeSignalRoutingOf, writeModeAndVolumeOf}
 use Rattle.control.specs.Block.{decodeOf, encodeOf}
 use Rattle.script.specs.declared.Checked.{Checked}
@@ -21,20 +21,20 @@ writeOf s register value =
     (cond (eqb register 3) (writeModeAndVolumeOf s value) startingState)))
 
 -- the state of a valid block, and the starting value for any other
-abbrev pub stateOr : Decoded → State
+abbrev pub stateOr : DecodedState → State
 stateOr (Valid s) = s
 stateOr Invalid = startingState
 
 -- a valid block after a write; an invalid one stays
-abbrev pub writtenOf : Decoded → List ℕ → ℕ → ℕ → List ℕ
+abbrev pub writtenOf : DecodedState → List ℕ → ℕ → ℕ → List ℕ
 writtenOf (Valid s) block register value = encodeOf (writeOf s register value) block
 writtenOf Invalid block register value = block
 
 -- the effective cutoff of a valid block, and 65,535 for any other
-abbrev pub effectiveOf : Decoded → ℕ
+abbrev pub effectiveOf : DecodedState → ℕ
 effectiveOf (Valid s) = effectiveCutoffOf s
 effectiveOf Invalid = 65535
 
-abbrev pub scriptOf : Checked → Script
-scriptOf (WellFormed events samples) = record { refused = false; events = events; samples = samples }
-scriptOf (Refused a) = record { refused = true; events = 0; samples = 0 }
+abbrev pub scriptReplyOf : Checked → Script
+scriptReplyOf (WellFormed events samples) = record { refused = false; events = events; samples = samples }
+scriptReplyOf (Refused a) = record { refused = true; events = 0; samples = 0 }

@@ -9,12 +9,12 @@ use Rattle.control.specs.declared.State.{State}
 use Rattle.controls.specs.Controls.{controlsOf}
 use Rattle.sample.specs.declared.Sampled.{Sampled}
 use Rattle.sample.specs.declared.Sampled.the-variants.{Taken, Refused}
-use Rattle.sample.specs.Sample.{summerSlotOf, sampleOf}
+use Rattle.sample.specs.Sample.{summerSlotOf, filterSampleOf}
 use Rattle.probe.specs.declared.steps.Step.{Step}
 
 -- an answer by its numbers, and the numbers of a sample that was taken
-abbrev pub stepOf : Sampled → Step
-stepOf (Taken o s) = record {
+abbrev pub sampleStepOf : Sampled → Step
+sampleStepOf (Taken o s) = record {
   number = 0;
   buffer = 0;
   place = 0;
@@ -26,7 +26,7 @@ stepOf (Taken o s) = record {
   «low_state» = s .«low_state»;
   «filter_source_energy» = s .«filter_source_energy»;
 }
-stepOf (Refused a) = record {
+sampleStepOf (Refused a) = record {
   number = numberOf a;
   buffer = bufferOf a;
   place = placeOf a;
@@ -40,7 +40,7 @@ stepOf (Refused a) = record {
 }
 
 -- a sample on what a state's registers give, worked out afresh
-unfoldable pub sampledOf : List ℕ → List ℕ → State → Float → Float → Sampled
-sampledOf bundle curves s sum energy =
+unfoldable pub freshSampleOf : List ℕ → List ℕ → State → Float → Float → Sampled
+freshSampleOf bundle curves s sum energy =
     let topology = topologyOf (s .registers .routing) (s .registers .mode) in
-    sampleOf bundle curves (summerSlotOf topology) topology (controlsOf bundle s) (s .registers .mode) (s .integrator) sum energy
+    filterSampleOf bundle curves (summerSlotOf topology) topology (controlsOf bundle s) (s .registers .mode) (s .integrator) sum energy

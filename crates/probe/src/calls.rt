@@ -1,8 +1,8 @@
 // The direct calls of the filter's parts, and the total transfers behind the first three.
 ghost use mathlib.Core.Path.{_≡_};
-ghost use Rattle.response.specs.Levels.{quiescentLevelOf};
-ghost use Rattle.sample.specs.Sample.{summerSlotOf, summerOf};
-ghost use Rattle.transfers.specs.Transfers.{mixerSlotOf, mixerOf, volumeSlotOf, volumeOf};
+ghost use Rattle.response.specs.Levels.{filterModeQuiescentLevelOf};
+ghost use Rattle.sample.specs.Sample.{summerSlotOf, summerTransferOf};
+ghost use Rattle.transfers.specs.Transfers.{mixerSlotOf, mixerTransferOf, volumeSlotOf, volumeTransferOf};
 ghost use Rattle.direct.specs.Calls as C;
 ghost use Rattle.probe.specs.Calls.{replyOf, stepReplyOf, routeReplyOf, binReplyOf};
 use direct::Valued;
@@ -62,21 +62,21 @@ pub extern "C" fn probe_direct_summer(
     topology: MixingTopology,
     sum: f32,
 ) -> Reply
-    ensures { λ r. ⌜ r ≡ replyOf (C.summerCallOf (now (bundle .entry)) (now (curves .entry)) topology sum) ⌝ }
+    ensures { λ r. ⌜ r ≡ replyOf (C.summerTransferCallOf (now (bundle .entry)) (now (curves .entry)) topology sum) ⌝ }
 {
     numbers(direct::summer_transfer(bundle, curves, topology, sum))
 }
 
 #[no_mangle]
 pub extern "C" fn probe_direct_mixer(curves: &[u8], topology: MixingTopology, sum: f32) -> Reply
-    ensures { λ r. ⌜ r ≡ replyOf (C.mixerCallOf (now (curves .entry)) topology sum) ⌝ }
+    ensures { λ r. ⌜ r ≡ replyOf (C.mixerTransferCallOf (now (curves .entry)) topology sum) ⌝ }
 {
     numbers(direct::mixer_transfer(curves, topology, sum))
 }
 
 #[no_mangle]
 pub extern "C" fn probe_direct_volume(curves: &[u8], volume: u8, value: f32) -> Reply
-    ensures { λ r. ⌜ r ≡ replyOf (C.volumeCallOf (now (curves .entry)) volume value) ⌝ }
+    ensures { λ r. ⌜ r ≡ replyOf (C.volumeTransferCallOf (now (curves .entry)) volume value) ⌝ }
 {
     numbers(direct::volume_transfer(curves, volume, value))
 }
@@ -89,14 +89,14 @@ pub extern "C" fn probe_any_summer(
     topology: MixingTopology,
     sum: f32,
 ) -> f32
-    ensures { λ r. ⌜ r ≡ summerOf (now (bundle .entry)) (now (curves .entry)) (summerSlotOf topology) topology sum ⌝ }
+    ensures { λ r. ⌜ r ≡ summerTransferOf (now (bundle .entry)) (now (curves .entry)) (summerSlotOf topology) topology sum ⌝ }
 {
     sample::summer_transfer(bundle, curves, sample::summer_slot(topology), topology, sum)
 }
 
 #[no_mangle]
 pub extern "C" fn probe_any_mixer(curves: &[u8], topology: MixingTopology, sum: f32) -> f32
-    ensures { λ r. ⌜ r ≡ mixerOf (now (curves .entry)) (mixerSlotOf (topology .«mixer_input_count»)) topology sum ⌝ }
+    ensures { λ r. ⌜ r ≡ mixerTransferOf (now (curves .entry)) (mixerSlotOf (topology .«mixer_input_count»)) topology sum ⌝ }
 {
     let slot = transfers::mixer_slot(topology.mixer_input_count);
     transfers::mixer_transfer(curves, slot, topology, sum)
@@ -104,7 +104,7 @@ pub extern "C" fn probe_any_mixer(curves: &[u8], topology: MixingTopology, sum: 
 
 #[no_mangle]
 pub extern "C" fn probe_any_volume(curves: &[u8], volume: u8, value: f32) -> f32
-    ensures { λ r. ⌜ r ≡ volumeOf (now (curves .entry)) (volumeSlotOf volume) value ⌝ }
+    ensures { λ r. ⌜ r ≡ volumeTransferOf (now (curves .entry)) (volumeSlotOf volume) value ⌝ }
 {
     transfers::volume_transfer(curves, transfers::volume_slot(volume), value)
 }
@@ -137,7 +137,7 @@ pub extern "C" fn probe_direct_advance(
 
 #[no_mangle]
 pub extern "C" fn probe_direct_topology(routing: u8, mode: u8) -> RouteReply
-    ensures { λ r. ⌜ r ≡ routeReplyOf (C.topologyCallOf routing mode) ⌝ }
+    ensures { λ r. ⌜ r ≡ routeReplyOf (C.mixingTopologyCallOf routing mode) ⌝ }
 {
     let r = direct::mixing_topology(routing, mode);
     let answer = r.answer;
@@ -152,21 +152,21 @@ pub extern "C" fn probe_direct_topology(routing: u8, mode: u8) -> RouteReply
 
 #[no_mangle]
 pub extern "C" fn probe_direct_quiescent_level() -> f32
-    ensures { λ r. ⌜ r ≡ quiescentLevelOf ⌝ }
+    ensures { λ r. ⌜ r ≡ filterModeQuiescentLevelOf ⌝ }
 {
     direct::filter_mode_quiescent_level()
 }
 
 #[no_mangle]
 pub extern "C" fn probe_direct_voltage(voltage: f32) -> Reply
-    ensures { λ r. ⌜ r ≡ replyOf (C.voltageCallOf voltage) ⌝ }
+    ensures { λ r. ⌜ r ≡ replyOf (C.normaliseVoltageCallOf voltage) ⌝ }
 {
     numbers(direct::normalise_voltage(voltage))
 }
 
 #[no_mangle]
 pub extern "C" fn probe_direct_position(input: f32, band: f32, low: f32) -> BinReply
-    ensures { λ r. ⌜ r ≡ binReplyOf (C.positionCallOf input band low) ⌝ }
+    ensures { λ r. ⌜ r ≡ binReplyOf (C.operatingPositionCallOf input band low) ⌝ }
 {
     let r = direct::operating_position(input, band, low);
     let answer = r.answer;
@@ -179,14 +179,14 @@ pub extern "C" fn probe_direct_position(input: f32, band: f32, low: f32) -> BinR
 
 #[no_mangle]
 pub extern "C" fn probe_direct_conductance(volume: u8) -> Reply
-    ensures { λ r. ⌜ r ≡ replyOf (C.conductanceCallOf volume) ⌝ }
+    ensures { λ r. ⌜ r ≡ replyOf (C.volumeDacConductanceCodeCallOf volume) ⌝ }
 {
     numbers(direct::volume_dac_conductance_code(volume))
 }
 
 #[no_mangle]
 pub extern "C" fn probe_direct_common_mode(mode: u8, cutoff: u16) -> Reply
-    ensures { λ r. ⌜ r ≡ replyOf (C.commonModeCallOf mode cutoff) ⌝ }
+    ensures { λ r. ⌜ r ≡ replyOf (C.filterOutputCommonModeCallOf mode cutoff) ⌝ }
 {
     numbers(direct::filter_output_common_mode(mode, cutoff))
 }
@@ -198,7 +198,7 @@ pub extern "C" fn probe_direct_mode_gain(
     resonance: u8,
     cutoff: u16,
 ) -> Reply
-    ensures { λ r. ⌜ r ≡ replyOf (C.modeGainCallOf (now (bundle .entry)) mode resonance cutoff) ⌝ }
+    ensures { λ r. ⌜ r ≡ replyOf (C.filterModeOutputGainCallOf (now (bundle .entry)) mode resonance cutoff) ⌝ }
 {
     numbers(direct::filter_mode_output_gain(bundle, mode, resonance, cutoff))
 }

@@ -60,7 +60,7 @@ fn fields(r: Registers) -> FilterRegisters
 }
 
 fn taken(h: Handed) -> Core
-    ensures { λ v. ⌜ v ≡ K.coreOf h ⌝ }
+    ensures { λ v. ⌜ v ≡ K.handedCoreOf h ⌝ }
 {
     let r = h.registers;
     let integrator = h.integrator;
@@ -132,8 +132,8 @@ fn fed_at(bundle: &[u8], curves: &[u8], core: Core, script: &[u8], place: usize)
 {
     let decoded = script::event_at(script, place);
     match decoded {
-        script::Decoded::Readable(event) => core.feed(bundle, curves, event),
-        script::Decoded::Unreadable => Fed {
+        script::DecodedEvent::Readable(event) => core.feed(bundle, curves, event),
+        script::DecodedEvent::Unreadable => Fed {
             answer: Answer::Script,
             outputs: Outputs {
                 high: 0.0,
@@ -149,7 +149,7 @@ fn fed_at(bundle: &[u8], curves: &[u8], core: Core, script: &[u8], place: usize)
 // One event of twelve bytes on the core that is handed in.
 #[no_mangle]
 pub extern "C" fn probe_feed(bundle: &[u8], curves: &[u8], core: Handed, event: &[u8]) -> Given
-    ensures { λ r. ⌜ r ≡ K.givenOf (K.fedAtOf (now (bundle .entry)) (now (curves .entry)) (K.coreOf core) (eventAt (now (event .entry)) 0)) ⌝ }
+    ensures { λ r. ⌜ r ≡ K.givenOf (K.fedAtOf (now (bundle .entry)) (now (curves .entry)) (K.handedCoreOf core) (eventAt (now (event .entry)) 0)) ⌝ }
 {
     numbers(fed_at(bundle, curves, taken(core), event, 0))
 }

@@ -6,17 +6,17 @@ mod surface;
 
 ghost use mathlib.Core.Path.{_≡_};
 ghost use Rattle.integrator.specs.Integrator.{saturateOf, advanceOf};
-ghost use Rattle.response.specs.Levels.{normaliseVoltageOf, conductanceCodeOf, outputCommonModeOf};
+ghost use Rattle.response.specs.Levels.{normaliseVoltageOf, volumeDacConductanceCodeOf, filterOutputCommonModeOf};
 ghost use Rattle.response.specs.Position.{operatingPositionOf};
-ghost use Rattle.response.specs.Gain.{modeOutputGainOf, symmetricGainOf};
+ghost use Rattle.response.specs.Gain.{filterModeOutputGainOf, symmetricGainOf};
 ghost use Rattle.mixing.specs.Line.{lineOf};
 ghost use Rattle.mixing.specs.Topology.{topologyOf};
 ghost use Rattle.wire.specs.Wire.{putAt};
 ghost use Rattle.control.specs.Block.{decodeOf};
 ghost use Rattle.controls.specs.Controls.{controlsOf};
-ghost use Rattle.script.specs.Script.{checkOf};
-ghost use Rattle.probe.specs.Probe.{stateOr, writeOf, writtenOf, effectiveOf, scriptOf};
-use control::Decoded;
+ghost use Rattle.script.specs.Script.{checkScriptOf};
+ghost use Rattle.probe.specs.Probe.{stateOr, writeOf, writtenOf, effectiveOf, scriptReplyOf};
+use control::DecodedState;
 use control::State;
 use controls::ControlCache;
 use integrator::Advanced;
@@ -60,21 +60,21 @@ pub extern "C" fn probe_operating_position(input: f32, band: f32, low: f32) -> T
 
 #[no_mangle]
 pub extern "C" fn probe_conductance_code(volume: u8) -> f32
-    ensures { λ r. ⌜ r ≡ conductanceCodeOf volume ⌝ }
+    ensures { λ r. ⌜ r ≡ volumeDacConductanceCodeOf volume ⌝ }
 {
     response::volume_dac_conductance_code(volume)
 }
 
 #[no_mangle]
 pub extern "C" fn probe_common_mode(mode: u8, cutoff: u16) -> f32
-    ensures { λ r. ⌜ r ≡ outputCommonModeOf mode cutoff ⌝ }
+    ensures { λ r. ⌜ r ≡ filterOutputCommonModeOf mode cutoff ⌝ }
 {
     response::filter_output_common_mode(mode, cutoff)
 }
 
 #[no_mangle]
 pub extern "C" fn probe_mode_gain(mode: u8, resonance: u8, cutoff: u16, loading: f32) -> f32
-    ensures { λ r. ⌜ r ≡ modeOutputGainOf mode resonance cutoff loading ⌝ }
+    ensures { λ r. ⌜ r ≡ filterModeOutputGainOf mode resonance cutoff loading ⌝ }
 {
     response::filter_mode_output_gain(mode, resonance, cutoff, loading)
 }
@@ -111,8 +111,8 @@ pub extern "C" fn probe_effective_cutoff(block: &[u8]) -> u16
 {
     let decoded = State::decode(block);
     match decoded {
-        Decoded::Valid(state) => state.effective_cutoff(),
-        Decoded::Invalid => 65535,
+        DecodedState::Valid(state) => state.effective_cutoff(),
+        DecodedState::Invalid => 65535,
     }
 }
 
@@ -134,7 +134,7 @@ pub extern "C" fn probe_write(block: &mut [u8], register: u8, value: u8)
     ensures { λ _. ⌜ now (block .exit) ≡ writtenOf (decodeOf (now (block .entry))) (now (block .entry)) register value ⌝ }
 {
     let decoded = State::decode(block);
-    if let Decoded::Valid(state) = decoded {
+    if let DecodedState::Valid(state) = decoded {
         let next = write(state, register, value);
         next.encode(block);
     }
@@ -147,8 +147,8 @@ pub extern "C" fn probe_controls(bundle: &[u8], block: &[u8]) -> ControlCache
 {
     let decoded = State::decode(block);
     match decoded {
-        Decoded::Valid(state) => controls::controls_of(bundle, state),
-        Decoded::Invalid => controls::controls_of(bundle, State::new()),
+        DecodedState::Valid(state) => controls::controls_of(bundle, state),
+        DecodedState::Invalid => controls::controls_of(bundle, State::new()),
     }
 }
 
@@ -162,7 +162,7 @@ pub struct Script {
 
 #[no_mangle]
 pub extern "C" fn probe_script(script: &[u8]) -> Script
-    ensures { λ r. ⌜ r ≡ scriptOf (checkOf (now (script .entry))) ⌝ }
+    ensures { λ r. ⌜ r ≡ scriptReplyOf (checkScriptOf (now (script .entry))) ⌝ }
 {
     let checked = script::check(script);
     match checked {

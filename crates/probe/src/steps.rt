@@ -2,8 +2,8 @@
 ghost use mathlib.Core.Path.{_≡_};
 ghost use Rattle.control.specs.Block.{decodeOf};
 ghost use Rattle.probe.specs.Probe.{stateOr};
-ghost use Rattle.probe.specs.Steps.{stepOf, sampledOf};
-use control::Decoded;
+ghost use Rattle.probe.specs.Steps.{sampleStepOf, freshSampleOf};
+use control::DecodedState;
 use control::State;
 use mixing::MixingTopology;
 use sample::Sampled;
@@ -24,7 +24,7 @@ pub struct Step {
 }
 
 fn numbers(s: Sampled) -> Step
-    ensures { λ r. ⌜ r ≡ stepOf s ⌝ }
+    ensures { λ r. ⌜ r ≡ sampleStepOf s ⌝ }
 {
     match s {
         Sampled::Taken { outputs, state } => Step {
@@ -58,7 +58,7 @@ fn numbers(s: Sampled) -> Step
 }
 
 fn sampled(bundle: &[u8], curves: &[u8], s: State, sum: f32, energy: f32) -> Sampled
-    ensures { λ r. ⌜ r ≡ sampledOf (now (bundle .entry)) (now (curves .entry)) s sum energy ⌝ }
+    ensures { λ r. ⌜ r ≡ freshSampleOf (now (bundle .entry)) (now (curves .entry)) s sum energy ⌝ }
 {
     let registers = s.registers;
     let topology = MixingTopology::update(registers.routing, registers.mode);
@@ -86,11 +86,11 @@ pub extern "C" fn probe_step(
     sum: f32,
     energy: f32,
 ) -> Step
-    ensures { λ r. ⌜ r ≡ stepOf (sampledOf (now (bundle .entry)) (now (curves .entry)) (stateOr (decodeOf (now (block .entry)))) sum energy) ⌝ }
+    ensures { λ r. ⌜ r ≡ sampleStepOf (freshSampleOf (now (bundle .entry)) (now (curves .entry)) (stateOr (decodeOf (now (block .entry)))) sum energy) ⌝ }
 {
     let decoded = State::decode(block);
     match decoded {
-        Decoded::Valid(state) => numbers(sampled(bundle, curves, state, sum, energy)),
-        Decoded::Invalid => numbers(sampled(bundle, curves, State::new(), sum, energy)),
+        DecodedState::Valid(state) => numbers(sampled(bundle, curves, state, sum, energy)),
+        DecodedState::Invalid => numbers(sampled(bundle, curves, State::new(), sum, energy)),
     }
 }

@@ -1,8 +1,8 @@
 // The surface and a curve: the refusing calls, and the total functions behind them.
 ghost use mathlib.Core.Path.{_≡_};
-ghost use Rattle.curves.specs.Sampling.{sampleOf, sampleCurveOf, restingOutputOf};
-ghost use Rattle.sid_filter.specs.Calls.{positionedOf, sampledOf, curveSampledOf};
-ghost use Rattle.probe.specs.Surface.{valueOf, loadOf};
+ghost use Rattle.curves.specs.Sampling.{sampleOf, sampleCurveOf, summerRestingOutputOf};
+ghost use Rattle.sid_filter.specs.Calls.{loadPositionCallOf, sampleCallOf, sampleCurveCallOf};
+ghost use Rattle.probe.specs.Surface.{surfaceReplyOf, loadOf};
 use sid_filter::Sampled;
 
 // An answer by its numbers, and the value beside it.
@@ -23,7 +23,7 @@ pub struct Load {
 }
 
 fn numbers(r: Sampled) -> Value
-    ensures { λ v. ⌜ v ≡ valueOf r ⌝ }
+    ensures { λ v. ⌜ v ≡ surfaceReplyOf r ⌝ }
 {
     let answer = r.answer;
     let told = answers::report(answer);
@@ -37,7 +37,7 @@ fn numbers(r: Sampled) -> Value
 
 #[no_mangle]
 pub extern "C" fn probe_load_position(conductance: f32) -> Load
-    ensures { λ r. ⌜ r ≡ loadOf (positionedOf conductance) ⌝ }
+    ensures { λ r. ⌜ r ≡ loadOf (loadPositionCallOf conductance) ⌝ }
 {
     let r = sid_filter::load_position(conductance);
     let answer = r.answer;
@@ -52,14 +52,14 @@ pub extern "C" fn probe_load_position(conductance: f32) -> Load
 
 #[no_mangle]
 pub extern "C" fn probe_sample(bundle: &[u8], conductance: f32, input: f32) -> Value
-    ensures { λ r. ⌜ r ≡ valueOf (sampledOf (now (bundle .entry)) conductance input) ⌝ }
+    ensures { λ r. ⌜ r ≡ surfaceReplyOf (sampleCallOf (now (bundle .entry)) conductance input) ⌝ }
 {
     numbers(sid_filter::sample(bundle, conductance, input))
 }
 
 #[no_mangle]
 pub extern "C" fn probe_sample_curve(curves: &[u8], curve: u8, input: f32) -> Value
-    ensures { λ r. ⌜ r ≡ valueOf (curveSampledOf (now (curves .entry)) curve input) ⌝ }
+    ensures { λ r. ⌜ r ≡ surfaceReplyOf (sampleCurveCallOf (now (curves .entry)) curve input) ⌝ }
 {
     numbers(sid_filter::sample_curve(curves, curve, input))
 }
@@ -81,7 +81,7 @@ pub extern "C" fn probe_any_sample_curve(curves: &[u8], curve: u8, input: f32) -
 
 #[no_mangle]
 pub extern "C" fn probe_summer_resting_output(bundle: &[u8], count: usize) -> f32
-    ensures { λ r. ⌜ r ≡ restingOutputOf (now (bundle .entry)) count ⌝ }
+    ensures { λ r. ⌜ r ≡ summerRestingOutputOf (now (bundle .entry)) count ⌝ }
 {
     curves::summer_resting_output(bundle, count)
 }

@@ -4,7 +4,7 @@ ghost use mathlib.Core.Path.{_≡_};
 ghost use Prim.Native.Nat.{_≤_};
 ghost use lib.ListN.{length};
 use answers::Answer;
-use control::Decoded;
+use control::DecodedState;
 use control::State;
 use controls::FilterControls;
 use controls::OutputControls;
@@ -17,8 +17,8 @@ use sample::Outputs;
 fn fed_at(bundle: &[u8], curves: &[u8], core: Core, script: &[u8], place: usize) -> Fed {
     let decoded = script::event_at(script, place);
     match decoded {
-        script::Decoded::Readable(event) => core.feed(bundle, curves, event),
-        script::Decoded::Unreadable => Fed {
+        script::DecodedEvent::Readable(event) => core.feed(bundle, curves, event),
+        script::DecodedEvent::Unreadable => Fed {
             answer: Answer::Script,
             outputs: Outputs {
                 high: 0.0,
@@ -35,8 +35,8 @@ fn fed_at(bundle: &[u8], curves: &[u8], core: Core, script: &[u8], place: usize)
 fn state_or(block: &[u8]) -> State {
     let decoded = State::decode(block);
     match decoded {
-        Decoded::Valid(state) => state,
-        Decoded::Invalid => State::new(),
+        DecodedState::Valid(state) => state,
+        DecodedState::Invalid => State::new(),
     }
 }
 

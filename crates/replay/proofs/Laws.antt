@@ -17,13 +17,13 @@ use mir.Val.{toZ, ofZ, SFits}
 use mir.ValLaws.{toZ-pos}
 use borrow.Author.Tests.{lt-ltb, le-ltb, ne-eqb}
 use Rattle.wire.specs.Wire.{u32At}
-use Rattle.replay.specs.Records.{countOf, recordOf, areFloats, hasFloats}
+use Rattle.replay.specs.Records.{recordCountOf, recordOf, areFloats, hasFloats}
 
 -- ---- a record among others
 
 -- it lies whole in the bytes
-pub inside : (n w i k : ℕ) → k ≡ countOf n w → i < k → 4 * (w * i) + 4 * w ≤ n
-unfolding countOf
+pub inside : (n w i k : ℕ) → k ≡ recordCountOf n w → i < k → 4 * (w * i) + 4 * w ≤ n
+unfolding recordCountOf
 inside n w i k e h = go w (subst (λ (m : ℕ). i < m) e h)
   where
     whole : (v m : ℕ) → m + v ≤ n / 4 → 4 * m + 4 * v ≤ n
@@ -32,20 +32,20 @@ inside n w i k e h = go w (subst (λ (m : ℕ). i < m) e h)
     rows : (v : ℕ) → suc i * v ≤ n / 4 → v * i + v ≤ n / 4
     rows v l = subst (λ (m : ℕ). m + v ≤ n / 4) (mul-comm i v) (rw suc-mul at l)
 
-    go : (v : ℕ) → i < countOf n v → 4 * (v * i) + 4 * v ≤ n
+    go : (v : ℕ) → i < recordCountOf n v → 4 * (v * i) + 4 * v ≤ n
     go zero l = absurd (omega (arith, l))
     go (suc v) l = whole (suc v) (suc v * i) (rows (suc v) (le-div-iff-mul-le {k = suc v} {x = suc i} {y = n / 4} (omega arith) .0 (rw (ne-eqb (suc v) 0 (λ z. omega arith)) at l)))
 
-module _ (s : List ℕ) (w i k : ℕ) (e : k ≡ countOf (length s) w) where
+module _ (s : List ℕ) (w i k : ℕ) (e : k ≡ recordCountOf (length s) w) where
   pub record-is : i < k → take (4 * (w * i) + 4 * w - 4 * (w * i)) (drop (4 * (w * i)) s) ≡ recordOf s w i
   unfolding recordOf
   record-is h =
       let same : 4 * (w * i) + 4 * w - 4 * (w * i) ≡ 4 * w = omega arith in
-      rw (same, lt-ltb i (countOf (length s) w) (subst (λ (m : ℕ). i < m) e h))
+      rw (same, lt-ltb i (recordCountOf (length s) w) (subst (λ (m : ℕ). i < m) e h))
 
   pub record-none : k ≤ i → [] ≡ recordOf s w i
   unfolding recordOf
-  record-none h = rw (le-ltb i (countOf (length s) w) (subst (λ (m : ℕ). m ≤ i) e h))
+  record-none h = rw (le-ltb i (recordCountOf (length s) w) (subst (λ (m : ℕ). m ≤ i) e h))
 
 -- ---- an f64's pattern
 

@@ -8,12 +8,12 @@ use lib.Ieee.{Float, binary32, toBits}
 use Rattle.wire.specs.Wire.{u32At}
 
 -- the whole records in a number of bytes
-unfoldable pub countOf : ℕ → ℕ → ℕ
-countOf bytes words = cond (eqb words 0) 0 (bytes / 4 / words)
+unfoldable pub recordCountOf : ℕ → ℕ → ℕ
+recordCountOf bytes words = cond (eqb words 0) 0 (bytes / 4 / words)
 
 -- the i-th record, and nothing past the last
 unfoldable pub recordOf : List ℕ → ℕ → ℕ → List ℕ
-recordOf s words i = cond (ltb i (countOf (length s) words)) (take (4 * words) (drop (4 * (words * i)) s)) []
+recordOf s words i = cond (ltb i (recordCountOf (length s) words)) (take (4 * words) (drop (4 * (words * i)) s)) []
 
 -- two words, the low one first, and 0 past the end
 unfoldable pub u64At : List ℕ → ℕ → ℕ

@@ -4,7 +4,7 @@ mod words;
 ghost use mathlib.Core.Path.{_≡_};
 ghost use lib.ListN.{length};
 ghost use Rattle.io.specs.Counts.{Counts};
-ghost use Rattle.replay.specs.Records.{countOf, recordOf};
+ghost use Rattle.replay.specs.Records.{recordCountOf, recordOf};
 use libc::STDOUT_FILENO;
 pub use words::double_bits;
 pub use words::f64_at;
@@ -43,7 +43,7 @@ pub fn load(file: &[u8], bytes: &mut [u8]) -> usize
 
 // How many whole records the bytes hold.
 pub fn count(records: &[u8], words: usize) -> usize
-    ensures { λ r. ⌜ r ≡ countOf (length (now (records .entry))) words ⌝ }
+    ensures { λ r. ⌜ r ≡ recordCountOf (length (now (records .entry))) words ⌝ }
 {
     if words == 0 {
         return 0;

@@ -9,7 +9,7 @@ use Rattle.constants.specs.Values as K
 use Rattle.constants.specs.Tables.{singleModeCutoffGainOf, singleModeResonanceGainOf, symmetricLoadingGainOf}
 use Rattle.floats.specs.Arithmetic.{_⊕_, _⊖_, _⊗_, _⊘_, f32}
 use Rattle.floats.specs.Floats.{clampOf}
-use Rattle.response.specs.Levels.{between, cutoffPositionOf}
+use Rattle.response.specs.Levels.{interpolateOf, cutoffPositionOf}
 use Rattle.response.specs.Position.{loadingPositionOf}
 
 abbrev one : Float
@@ -19,12 +19,12 @@ abbrev pub resonanceOf : ℕ → Float
 resonanceOf resonance = ofInt binary32 (pos resonance)
 
 -- ((resonance - 8.0) / 7.0).clamp(0.0, 1.0)
-abbrev pub highResonanceOf : ℕ → Float
-highResonanceOf resonance = clampOf ((resonanceOf resonance ⊖ f32 0x4100_0000) ⊘ f32 0x40e0_0000) (f32 0) one
+abbrev pub resonancePositionOf : ℕ → Float
+resonancePositionOf resonance = clampOf ((resonanceOf resonance ⊖ f32 0x4100_0000) ⊘ f32 0x40e0_0000) (f32 0) one
 
 -- ((8.0 - resonance) / 8.0).clamp(0.0, 1.0)
-abbrev pub lowResonanceOf : ℕ → Float
-lowResonanceOf resonance = clampOf ((f32 0x4100_0000 ⊖ resonanceOf resonance) ⊘ f32 0x4100_0000) (f32 0) one
+abbrev pub lowResonancePositionOf : ℕ → Float
+lowResonancePositionOf resonance = clampOf ((f32 0x4100_0000 ⊖ resonanceOf resonance) ⊘ f32 0x4100_0000) (f32 0) one
 
 -- r is the high resonance, p the cutoff's position
 abbrev pub lowGainOf : Float → Float
@@ -51,7 +51,7 @@ baseGainOf m r p =
 
 unfoldable pub lowBandLiftOf : ℕ → ℕ → Float
 lowBandLiftOf m resonance =
-    let low = lowResonanceOf resonance in
+    let low = lowResonancePositionOf resonance in
     cond (eqb m 3) (one ⊕ K.FILTER-LOW-BAND-LOW-RESONANCE-LIFT ⊗ low ⊗ low) one
 
 unfoldable pub bandpassTrimOf : ℕ → Float → Float
@@ -70,36 +70,36 @@ resonanceCurveOf c =
     K.FILTER-HIGHPASS-RESONANCE-TRIM-C0
     ⊕ c ⊗ (K.FILTER-HIGHPASS-RESONANCE-TRIM-C1 ⊕ c ⊗ (K.FILTER-HIGHPASS-RESONANCE-TRIM-C2 ⊕ c ⊗ K.FILTER-HIGHPASS-RESONANCE-TRIM-C3))
 
-unfoldable pub highpassTrimOf : ℕ → ℕ → Float → Float
-highpassTrimOf m resonance p = cond (eqb m 4) (one ⊕ p ⊗ resonanceCurveOf (centredResonanceOf resonance)) one
+unfoldable pub highpassResonanceTrimOf : ℕ → ℕ → Float → Float
+highpassResonanceTrimOf m resonance p = cond (eqb m 4) (one ⊕ p ⊗ resonanceCurveOf (centredResonanceOf resonance)) one
 
 -- the loading tables' row: 0 low, 1 band, 2 high
 abbrev pub modeIndexOf : ℕ → ℕ
 modeIndexOf m = cond (eqb m 1) 0 (cond (eqb m 2) 1 2)
 
 -- just one output is selected
-abbrev pub singleOf : ℕ → Bool
-singleOf m = eqb m 1 || eqb m 2 || eqb m 4
+abbrev pub isSingleModeOf : ℕ → Bool
+isSingleModeOf m = eqb m 1 || eqb m 2 || eqb m 4
 
 -- a row of a loading table at a cutoff, linear between its entries
 abbrev pub loadingOf : (ℕ → ℕ → Float) → ℕ → ℕ → Float
 loadingOf table row cutoff =
     let at = loadingPositionOf cutoff in
-    between (table row (at .lower)) (table row (at .upper)) (at .fraction)
+    interpolateOf (table row (at .lower)) (table row (at .upper)) (at .fraction)
 
 unfoldable pub singleModeLoadingOf : ℕ → ℕ → ℕ → Float
 singleModeLoadingOf m resonance cutoff =
-    cond (singleOf m) (loadingOf singleModeCutoffGainOf (modeIndexOf m) cutoff ⊗ singleModeResonanceGainOf (modeIndexOf m) resonance) one
+    cond (isSingleModeOf m) (loadingOf singleModeCutoffGainOf (modeIndexOf m) cutoff ⊗ singleModeResonanceGainOf (modeIndexOf m) resonance) one
 
-unfoldable pub modeOutputGainOf : ℕ → ℕ → ℕ → Float → Float
-modeOutputGainOf mode resonance cutoff highpass-loading =
+unfoldable pub filterModeOutputGainOf : ℕ → ℕ → ℕ → Float → Float
+filterModeOutputGainOf mode resonance cutoff highpass-loading =
     let m = mode % 8 in
     let p = cutoffPositionOf cutoff in
-    baseGainOf m (highResonanceOf resonance) p
+    baseGainOf m (resonancePositionOf resonance) p
     ⊗ lowBandLiftOf m resonance
     ⊗ bandpassTrimOf m p
     ⊗ highpassLoadingOf m highpass-loading
-    ⊗ highpassTrimOf m resonance p
+    ⊗ highpassResonanceTrimOf m resonance p
     ⊗ singleModeLoadingOf m resonance cutoff
 
 -- the symmetric gain of `refresh_mode_output_gain`: the row of a mode index at the written cutoff

@@ -18,8 +18,8 @@ unfoldable pub normaliseVoltageOf : Float → Float
 normaliseVoltageOf voltage = clampOf ((voltage ⊖ K.SID-ANALOGUE-MIN-VOLTS) ⊘ analogueSpanOf) (f32 0) (f32 0x3f80_0000)
 
 -- `filter_mode_quiescent_level`
-unfoldable pub quiescentLevelOf : Float
-quiescentLevelOf = normaliseVoltageOf K.SID-ANALOGUE-QUIESCENT-VOLTS
+unfoldable pub filterModeQuiescentLevelOf : Float
+filterModeQuiescentLevelOf = normaliseVoltageOf K.SID-ANALOGUE-QUIESCENT-VOLTS
 
 -- sum += x where the bit is set
 abbrev pub addIf : Bool → Float → Float → Float
@@ -34,24 +34,24 @@ branchSumOf volume =
 abbrev pub loadedOf : Float → Float
 loadedOf sum = K.SID-VOLUME-DAC-CONDUCTANCE-SCALE ⊗ sum ⊘ (f32 0x3f80_0000 ⊕ K.SID-VOLUME-DAC-COMMON-COMPRESSION ⊗ sum)
 
-unfoldable pub conductanceCodeOf : ℕ → Float
-conductanceCodeOf volume = loadedOf (branchSumOf volume)
+unfoldable pub volumeDacConductanceCodeOf : ℕ → Float
+volumeDacConductanceCodeOf volume = loadedOf (branchSumOf volume)
 
 -- between two values, by a fraction
-abbrev pub between : Float → Float → Float → Float
-between lower upper fraction = lower ⊕ (upper ⊖ lower) ⊗ fraction
+abbrev pub interpolateOf : Float → Float → Float → Float
+interpolateOf lower upper fraction = lower ⊕ (upper ⊖ lower) ⊗ fraction
 
 -- cutoff as f32 / 2047.0
 abbrev pub cutoffPositionOf : ℕ → Float
 cutoffPositionOf cutoff = ofInt binary32 (pos cutoff) ⊘ f32 0x44ff_e000
 
 -- `filter_output_common_mode`: each selected output adds its own level
-unfoldable pub outputCommonModeOf : ℕ → ℕ → Float
-outputCommonModeOf mode cutoff =
+unfoldable pub filterOutputCommonModeOf : ℕ → ℕ → Float
+filterOutputCommonModeOf mode cutoff =
     let position = cutoffPositionOf cutoff in
     addIf (bit mode 2)
     (addIf (bit mode 1)
     (addIf (bit mode 0) (f32 0)
-    (between K.FILTER-LOWPASS-COMMON-MODE-FC-0 K.FILTER-LOWPASS-COMMON-MODE-FC-2047 position))
-    (between K.FILTER-BANDPASS-COMMON-MODE-FC-0 K.FILTER-BANDPASS-COMMON-MODE-FC-2047 position))
-    (between K.FILTER-HIGHPASS-COMMON-MODE-FC-0 K.FILTER-HIGHPASS-COMMON-MODE-FC-2047 position)
+    (interpolateOf K.FILTER-LOWPASS-COMMON-MODE-FC-0 K.FILTER-LOWPASS-COMMON-MODE-FC-2047 position))
+    (interpolateOf K.FILTER-BANDPASS-COMMON-MODE-FC-0 K.FILTER-BANDPASS-COMMON-MODE-FC-2047 position))
+    (interpolateOf K.FILTER-HIGHPASS-COMMON-MODE-FC-0 K.FILTER-HIGHPASS-COMMON-MODE-FC-2047 position)

@@ -6,7 +6,7 @@ ghost use lib.Dec.{T};
 ghost use lib.Ieee.{isNan, toUnsigned};
 ghost use Rattle.floats.specs.Arithmetic.{f32};
 ghost use Rattle.floats.specs.Floats.{absOf, clampOf};
-ghost use Rattle.response.specs.Levels.{analogueSpanOf, normaliseVoltageOf, quiescentLevelOf, addIf, branchSumOf, conductanceCodeOf, between, cutoffPositionOf, outputCommonModeOf};
+ghost use Rattle.response.specs.Levels.{analogueSpanOf, normaliseVoltageOf, filterModeQuiescentLevelOf, addIf, branchSumOf, volumeDacConductanceCodeOf, interpolateOf, cutoffPositionOf, filterOutputCommonModeOf};
 ghost use Rattle.response.specs.Position.{activityOf, operatingPositionOf, loadingPositionOf};
 ghost use Rattle.response.specs.Gain as G;
 
@@ -31,7 +31,7 @@ pub fn normalise_voltage(voltage: f32) -> f32
 
 // The level of the filter's amplifiers at rest.
 pub fn filter_mode_quiescent_level() -> f32
-    ensures { λ r. ⌜ r ≡ quiescentLevelOf ⌝ }
+    ensures { λ r. ⌜ r ≡ filterModeQuiescentLevelOf ⌝ }
 {
     normalise_voltage(constants::SID_ANALOGUE_QUIESCENT_VOLTS)
 }
@@ -44,7 +44,7 @@ fn add_if(on: bool, sum: f32, x: f32) -> f32
 
 // A value between two, by a fraction.
 pub fn interpolate(lower: f32, upper: f32, fraction: f32) -> f32
-    ensures { λ r. ⌜ r ≡ between lower upper fraction ⌝ }
+    ensures { λ r. ⌜ r ≡ interpolateOf lower upper fraction ⌝ }
 {
     lower + (upper - lower) * fraction
 }
@@ -62,7 +62,7 @@ fn branch_sum(volume: u8) -> f32
 
 // The volume DAC's conductance for a code; of a number above 15 the lower four bits count.
 pub fn volume_dac_conductance_code(volume: u8) -> f32
-    ensures { λ r. ⌜ r ≡ conductanceCodeOf volume ⌝ }
+    ensures { λ r. ⌜ r ≡ volumeDacConductanceCodeOf volume ⌝ }
 {
     let sum = branch_sum(volume);
     constants::SID_VOLUME_DAC_CONDUCTANCE_SCALE * sum
@@ -77,7 +77,7 @@ fn cutoff_position(cutoff: u16) -> f32
 
 // The operating point that the selected outputs give the output node.
 pub fn filter_output_common_mode(mode: u8, cutoff: u16) -> f32
-    ensures { λ r. ⌜ r ≡ outputCommonModeOf mode cutoff ⌝ }
+    ensures { λ r. ⌜ r ≡ filterOutputCommonModeOf mode cutoff ⌝ }
 {
     let position = cutoff_position(cutoff);
     let low = interpolate(
@@ -215,13 +215,13 @@ fn resonance_of(resonance: u8) -> f32
 }
 
 fn high_resonance(resonance: u8) -> f32
-    ensures { λ r. ⌜ r ≡ G.highResonanceOf resonance ⌝ }
+    ensures { λ r. ⌜ r ≡ G.resonancePositionOf resonance ⌝ }
 {
     floats::clamp((resonance_of(resonance) - 8.0) / 7.0, 0.0, 1.0)
 }
 
 fn low_resonance(resonance: u8) -> f32
-    ensures { λ r. ⌜ r ≡ G.lowResonanceOf resonance ⌝ }
+    ensures { λ r. ⌜ r ≡ G.lowResonancePositionOf resonance ⌝ }
 {
     floats::clamp((8.0 - resonance_of(resonance)) / 8.0, 0.0, 1.0)
 }
@@ -303,7 +303,7 @@ fn in_high_mode(m: u8, loading: f32) -> f32
 }
 
 fn highpass_resonance_trim(m: u8, resonance: u8, p: f32) -> f32
-    ensures { λ r. ⌜ r ≡ G.highpassTrimOf m resonance p ⌝ }
+    ensures { λ r. ⌜ r ≡ G.highpassResonanceTrimOf m resonance p ⌝ }
 {
     if m == 4 {
         let centred = resonance_of(resonance) / 15.0 - 0.5;
@@ -320,7 +320,7 @@ fn highpass_resonance_trim(m: u8, resonance: u8, p: f32) -> f32
 
 // Whether the mode's lower three bits select just one output.
 pub fn is_single_mode(m: u8) -> bool
-    ensures { λ r. ⌜ r ≡ G.singleOf m ⌝ }
+    ensures { λ r. ⌜ r ≡ G.isSingleModeOf m ⌝ }
 {
     (m == 1) | (m == 2) | (m == 4)
 }
@@ -352,7 +352,7 @@ fn single_mode_loading(m: u8, resonance: u8, cutoff: u16) -> f32
 
 // The output gain of a mode at a resonance and the effective cutoff. highpass_loading is the bundle's entry for that cutoff.
 pub fn filter_mode_output_gain(mode: u8, resonance: u8, cutoff: u16, highpass_loading: f32) -> f32
-    ensures { λ r. ⌜ r ≡ G.modeOutputGainOf mode resonance cutoff «highpass_loading» ⌝ }
+    ensures { λ r. ⌜ r ≡ G.filterModeOutputGainOf mode resonance cutoff «highpass_loading» ⌝ }
 {
     let m = mode % 8;
     let p = cutoff_position(cutoff);

@@ -14,7 +14,7 @@ use Rattle.control.specs.declared.State.{State}
 use Rattle.control.specs.Registers.{effectiveCutoffOf}
 use Rattle.control.specs.Block.{validOf}
 use Rattle.control.proofs.Valid.{valid-ranges, low-valid, high-valid, routing-valid, mode-valid, starting-valid}
-use Rattle.controls.specs.Controls.{modeGainOf}
+use Rattle.controls.specs.Controls.{refreshModeOutputGainOf}
 use Rattle.controls.specs.Judging.{judgeControlsOf}
 use Rattle.kept.specs.Kept.{judgeGainOf}
 use Rattle.kept.proofs.Parts.{judged-by-parts}
@@ -37,7 +37,7 @@ gain-answer judged x = go (isDoneOf judged) refl
 pub judged-is : (bundle : List ℕ) (s : State) → validOf s ≡ true → judgedOf bundle s ≡ judgeControlsOf bundle s
 judged-is bundle s v =
     let k = valid-ranges s v .resonance in
-    rw (gain-answer (judgeGainOf bundle (s .registers) (effectiveCutoffOf s)) (modeGainOf bundle (s .registers) (effectiveCutoffOf s)))
+    rw (gain-answer (judgeGainOf bundle (s .registers) (effectiveCutoffOf s)) (refreshModeOutputGainOf bundle (s .registers) (effectiveCutoffOf s)))
     (sym (judged-by-parts bundle s (omega arith)))
 
 -- ---- one event

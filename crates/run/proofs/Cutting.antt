@@ -18,8 +18,8 @@ use Rattle.wire.specs.Wire.{Bytes, bytesOf, rowBytes}
 use Rattle.wire.proofs.Laws.{both, length-bytesOf}
 use Rattle.bundle.specs.Opening.{checkOf}
 use Rattle.control.specs.declared.State.{State}
-use Rattle.control.specs.declared.Decoded.{Decoded}
-use Rattle.control.specs.declared.Decoded.the-variants.{Valid, Invalid}
+use Rattle.control.specs.declared.DecodedState.{DecodedState}
+use Rattle.control.specs.declared.DecodedState.the-variants.{Valid, Invalid}
 use Rattle.control.specs.Block.{validOf, blockOf, fieldsOf, decodeOf}
 use Rattle.control.proofs.RoundTrip.{fields-block, decode-block, Decodes, decoded, encode-decoded}
 use Rattle.controls.specs.Judging.{judgeControlsOf}
@@ -33,7 +33,7 @@ use Rattle.filter.specs.Plain.{Plain, plainStart, plainStep}
 use Rattle.filter.proofs.Demand3.{Kept, steps}
 use Rattle.run.proofs.Bytes.{length-outputs, outputs-append}
 use Rattle.run.specs.Run.{Ran, stopped, went, playOf, playedOf, outputBytes, sampleBytes, isValid, judgeRunOf, judgeScriptOf, Run, leftOf, runOf}
-use Rattle.run.specs.Pieces.{Piece, slicesOfAll, Roomy, AllRoomy, Told, told, toldOf, joinTold, piecesOf, plainTold}
+use Rattle.run.specs.Pieces.{Piece, slicesOfAll, Roomy, AllRoomy, Told, told, toldRan, joinTold, piecesOf, plainTold}
 
 -- ---- one run after another
 
@@ -127,10 +127,10 @@ module _ (bundle curves : List ℕ) where
 
 -- ---- on bytes
 
-told-left : (r : Ran) (output : List ℕ) → told (leftOf r output) ≡ toldOf r
+told-left : (r : Ran) (output : List ℕ) → told (leftOf r output) ≡ toldRan r
 told-left r output = rw (take-at (sampleBytes (r .samples)) (drop (16 * length (r .samples)) output) (16 * length (r .samples)) (length-outputs (r .samples))) refl
 
-told-join : (r t : Ran) → toldOf (join r t) ≡ joinTold (toldOf r) (toldOf t)
+told-join : (r t : Ran) → toldRan (join r t) ≡ joinTold (toldRan r) (toldRan t)
 told-join r t = rw (length-append (r .samples) (t .samples), outputs-append (r .samples) (t .samples)) refl
 
 -- ---- a run of a valid state and a well-formed script, given room: it is judged by what is lent alone
@@ -151,11 +151,11 @@ module _ (bundle curves : List ℕ) where
             go true h = sym (done-is a h)
             go false h = refl
 
-    told-run : lent ≡ Done → told (runOf bundle curves (blockOf s) script output) ≡ toldOf (playedOf bundle curves s (eventsOf script))
+    told-run : lent ≡ Done → told (runOf bundle curves (blockOf s) script output) ≡ toldRan (playedOf bundle curves s (eventsOf script))
     unfolding runOf
     told-run h = rw (run-judged ∙ h, fields-block s v) (told-left (playedOf bundle curves s (eventsOf script)) output)
 
-    told-refused : isDoneOf lent ≡ false → told (runOf bundle curves (blockOf s) script output) ≡ toldOf (stopped lent s)
+    told-refused : isDoneOf lent ≡ false → told (runOf bundle curves (blockOf s) script output) ≡ toldRan (stopped lent s)
     unfolding runOf sampleBytes
     told-refused h = rw (run-judged, h) refl
 
@@ -187,16 +187,16 @@ module _ (bundle curves : List ℕ) where
     formed : wellFormed script ≡ true
     formed = piece-well-formed (p .slices) (f .few) (f .readable)
 
-    piece-told : lent ≡ Done → told (runOf bundle curves (blockOf s) script (p .output)) ≡ toldOf (playedOf bundle curves s (eventsIn (p .slices)))
+    piece-told : lent ≡ Done → told (runOf bundle curves (blockOf s) script (p .output)) ≡ toldRan (playedOf bundle curves s (eventsIn (p .slices)))
     piece-told h =
         told-run s script (p .output) v formed (roomy (p .slices) (p .output) f room) h
-        ∙ ap (λ (es : List Event). toldOf (playedOf bundle curves s es)) (piece-events (p .slices) (f .few) (f .readable))
+        ∙ ap (λ (es : List Event). toldRan (playedOf bundle curves s es)) (piece-events (p .slices) (f .few) (f .readable))
 
-    piece-refused : isDoneOf lent ≡ false → told (runOf bundle curves (blockOf s) script (p .output)) ≡ toldOf (stopped lent s)
+    piece-refused : isDoneOf lent ≡ false → told (runOf bundle curves (blockOf s) script (p .output)) ≡ toldRan (stopped lent s)
     piece-refused = told-refused s script (p .output) v formed (roomy (p .slices) (p .output) f room)
 
   pieces-told : (h : lent ≡ Done) (s : State) (p : Piece) (rest : List Piece) → validOf s ≡ true → Fine (slicesOfAll p rest) → AllRoomy p rest
-      → piecesOf bundle curves (blockOf s) p rest ≡ toldOf (playedOf bundle curves s (eventsIn (slicesOfAll p rest)))
+      → piecesOf bundle curves (blockOf s) p rest ≡ toldRan (playedOf bundle curves s (eventsIn (slicesOfAll p rest)))
   unfolding piecesOf
   pieces-told h s p [] v f room = piece-told s p v f room h
   pieces-told h s p (q ∷ rest) v f room =
@@ -205,17 +205,17 @@ module _ (bundle curves : List ℕ) where
       let es = eventsIn (p .slices) in
       let r = playedOf bundle curves s es in
       ap (onward q rest) (piece-told s p v (parts .0) (room .0) h)
-      ∙ ap (λ (x : Told). cond (isDoneOf (r .answer)) (joinTold (toldOf r) x) (toldOf r)) (pieces-told h (r .state) q rest (played-valid bundle curves h s v es) (parts .1) (room .1))
+      ∙ ap (λ (x : Told). cond (isDoneOf (r .answer)) (joinTold (toldRan r) x) (toldRan r)) (pieces-told h (r .state) q rest (played-valid bundle curves h s v es) (parts .1) (room .1))
       ∙ told-then (isDoneOf (r .answer)) r (playedOf bundle curves (r .state) (eventsIn later))
-      ∙ ap toldOf (sym (played-cut bundle curves h s v es (eventsIn later)))
-      ∙ ap (λ (all : List Event). toldOf (playedOf bundle curves s all)) (sym (events-append (p .slices) later))
+      ∙ ap toldRan (sym (played-cut bundle curves h s v es (eventsIn later)))
+      ∙ ap (λ (all : List Event). toldRan (playedOf bundle curves s all)) (sym (events-append (p .slices) later))
     where
-      told-then : (d : Bool) (r t : Ran) → cond d (joinTold (toldOf r) (toldOf t)) (toldOf r) ≡ toldOf (cond d (join r t) r)
+      told-then : (d : Bool) (r t : Ran) → cond d (joinTold (toldRan r) (toldRan t)) (toldRan r) ≡ toldRan (cond d (join r t) r)
       told-then true r t = sym (told-join r t)
       told-then false r t = refl
 
   pieces-refused : (h : isDoneOf lent ≡ false) (s : State) (p : Piece) (rest : List Piece) → validOf s ≡ true → Fine (slicesOfAll p rest) → AllRoomy p rest
-      → piecesOf bundle curves (blockOf s) p rest ≡ toldOf (stopped lent s)
+      → piecesOf bundle curves (blockOf s) p rest ≡ toldRan (stopped lent s)
   unfolding piecesOf
   pieces-refused h s p [] v f room = piece-refused s p v f room h
   pieces-refused h s p (q ∷ rest) v f room =
@@ -227,11 +227,11 @@ plain-start-lent : (bundle curves : List ℕ) (s : State) → plainStart bundle 
 unfolding plainStart judgeLentOf
 plain-start-lent bundle curves s = sym (first-assoc (checkOf bundle) (unlessOf (eqb (length curves) 254076) CurvesLength) (firstOf (judgeStateOf s) (judgeControlsOf bundle s)))
 
-plain-lent : (bundle curves : List ℕ) (s : State) (es : List Event) → judgeLentOf bundle curves ≡ Done → validOf s ≡ true → toldOf (playedOf bundle curves s es) ≡ plainTold bundle curves s es
+plain-lent : (bundle curves : List ℕ) (s : State) (es : List Event) → judgeLentOf bundle curves ≡ Done → validOf s ≡ true → toldRan (playedOf bundle curves s es) ≡ plainTold bundle curves s es
 unfolding plainTold playedOf
 plain-lent bundle curves s es h v = rw (plain-start-lent bundle curves s, h, v) refl
 
-plain-refused : (bundle curves : List ℕ) (s : State) (es : List Event) → isDoneOf (judgeLentOf bundle curves) ≡ false → toldOf (stopped (judgeLentOf bundle curves) s) ≡ plainTold bundle curves s es
+plain-refused : (bundle curves : List ℕ) (s : State) (es : List Event) → isDoneOf (judgeLentOf bundle curves) ≡ false → toldRan (stopped (judgeLentOf bundle curves) s) ≡ plainTold bundle curves s es
 unfolding plainTold
 plain-refused bundle curves s es h =
     let e : plainStart bundle curves s ≡ judgeLentOf bundle curves = plain-start-lent bundle curves s ∙ rw h refl in
@@ -259,7 +259,7 @@ demand-3-cut bundle curves block script output s p rest bytes d w cut rooms room
     go : (t : Bool) → isDoneOf (judgeLentOf bundle curves) ≡ t → validOf s ≡ true → Fine bundle curves (slicesOfAll p rest) → Demand3Cut bundle curves (blockOf s) script output s p rest
     go true h v fine =
         let e = done-is (judgeLentOf bundle curves) h in
-        let pieces = pieces-told bundle curves e s p rest v fine rooms ∙ ap (λ (x : List (List ℕ)). toldOf (playedOf bundle curves s (eventsIn x))) cut in
+        let pieces = pieces-told bundle curves e s p rest v fine rooms ∙ ap (λ (x : List (List ℕ)). toldRan (playedOf bundle curves s (eventsIn x))) cut in
         record {
           uncut = pieces ∙ sym (told-run bundle curves s script output v w room e);
           plain = pieces ∙ plain-lent bundle curves s (eventsOf script) e v;

@@ -19,7 +19,7 @@ use Rattle.control.specs.declared.State.{State}
 use Rattle.control.specs.Registers.{effectiveCutoffOf, startingState, writeCutoffLowOf, writeCutoffHighOf, writeSignalRoutingOf, writeModeAndVolumeOf}
 use Rattle.control.proofs.Valid.{valid-ranges}
 use Rattle.controls.specs.declared.ControlCache.{ControlCache}
-use Rattle.controls.specs.Controls.{modeGainOf, filterControlsOf, controlsOf}
+use Rattle.controls.specs.Controls.{refreshModeOutputGainOf, refreshFilterControlsOf, controlsOf}
 use Rattle.kept.specs.Kept.{judgeGainOf}
 use Rattle.kept.proofs.Parts.{judged-by-parts}
 use Rattle.bundle.specs.Reading.{readOf}
@@ -31,11 +31,11 @@ use Rattle.controls.specs.Judging.{judgeFilterOf, judgeControlsOf}
 use Rattle.sample.specs.declared.Outputs.{Outputs}
 use Rattle.sample.specs.declared.Sampled.{Sampled}
 use Rattle.sample.specs.declared.Sampled.the-variants.{Taken, Refused}
-use Rattle.sample.specs.Sample.{summerSlotOf, sampleOf}
+use Rattle.sample.specs.Sample.{summerSlotOf, filterSampleOf}
 use Rattle.script.specs.declared.Event.{Event}
 use Rattle.script.specs.declared.Event.the-variants.{CutoffLow, CutoffHigh, Routing, Mode, Sample, Reset}
-use Rattle.script.specs.declared.Decoded.{Decoded}
-use Rattle.script.specs.declared.Decoded.the-variants.{Readable, Unreadable}
+use Rattle.script.specs.declared.DecodedEvent.{DecodedEvent}
+use Rattle.script.specs.declared.DecodedEvent.the-variants.{Readable, Unreadable}
 use Rattle.script.specs.Script as S
 use Rattle.script.specs.Script.{eventAt, allReadable, eventsIn, samplesOf}
 use Rattle.script.proofs.Laws.{slicesFrom, all-next, events-next, all-stop, events-end}
@@ -68,7 +68,7 @@ module _ (script : List ℕ) (count : ℕ) where
       more : i < count
       more = omega arith
 
-      go : (d : Decoded) → eventAt script (8 + 12 * i) ≡ d
+      go : (d : DecodedEvent) → eventAt script (8 + 12 * i) ≡ d
           → (i + 1 + n ≤ count → allReadable (slicesFrom script count (i + 1)) ≡ true → (allReadable (slicesFrom script count (i + 1 + n)) ≡ true) × (drop n (left (i + 1)) ≡ left (i + 1 + n)))
           → (allReadable (slicesFrom script count (i + suc n)) ≡ true) × (drop (suc n) (left i) ≡ left (i + suc n))
       go (Readable e) d on =
@@ -179,12 +179,12 @@ module _ (bundle curves : List ℕ) (lent : judgeLentOf bundle curves ≡ Done) 
   row-law s (Mode v ∷ es) good = quiet-row s good (Mode v ∷ es) (λ e fs p. cc)
   row-law s (Reset ∷ es) good = quiet-row s good (Reset ∷ es) (λ e fs p. cc)
   row-law s (Sample sum energy ∷ es) good =
-      go (sampleOf bundle curves (summerSlotOf (freshTopologyOf s)) (freshTopologyOf s) (controlsOf bundle s) (s .registers .mode) (s .integrator) sum energy) refl (λ t. row-law t es)
+      go (filterSampleOf bundle curves (summerSlotOf (freshTopologyOf s)) (freshTopologyOf s) (controlsOf bundle s) (s .registers .mode) (s .integrator) sum energy) refl (λ t. row-law t es)
     where
-      plain : (x : Sampled) → sampleOf bundle curves (summerSlotOf (freshTopologyOf s)) (freshTopologyOf s) (controlsOf bundle s) (s .registers .mode) (s .integrator) sum energy ≡ x → plainStep bundle curves s (Sample sum energy) ≡ plainTaken s x
+      plain : (x : Sampled) → filterSampleOf bundle curves (summerSlotOf (freshTopologyOf s)) (freshTopologyOf s) (controlsOf bundle s) (s .registers .mode) (s .integrator) sum energy ≡ x → plainStep bundle curves s (Sample sum energy) ≡ plainTaken s x
       plain x h = sym (sample-plain bundle curves s sum energy lent (good .valid) (good .judged)) ∙ ap (plainTaken s) h
 
-      go : (x : Sampled) → sampleOf bundle curves (summerSlotOf (freshTopologyOf s)) (freshTopologyOf s) (controlsOf bundle s) (s .registers .mode) (s .integrator) sum energy ≡ x
+      go : (x : Sampled) → filterSampleOf bundle curves (summerSlotOf (freshTopologyOf s)) (freshTopologyOf s) (controlsOf bundle s) (s .registers .mode) (s .integrator) sum energy ≡ x
           → ((t : State) → Good bundle curves t → RowLaw t es (freshRow t es))
           → RowLaw s (Sample sum energy ∷ es) (rowOn (λ j. rowAt s j es) (s .integrator) x)
       go (Taken o j) h on =
@@ -215,12 +215,12 @@ sample-few s true (Taken o j) a = omega arith
 sample-few s true (Refused b) a = omega arith
 sample-few s false x a = omega arith
 
-step-few : (bundle curves : List ℕ) (s : State) (e : Event) → length (plainStep bundle curves s e .sample) ≤ S.sampleOf e
+step-few : (bundle curves : List ℕ) (s : State) (e : Event) → length (plainStep bundle curves s e .sample) ≤ S.filterSampleOf e
 unfolding plainSample
 step-few bundle curves s (Sample sum energy) =
     let topology = freshTopologyOf s in
     let judged = firstOf (unlessOf (finite sum && finite energy) InputNotFinite) (firstOf (unlessOf (leb (topology .«mixer_input_count») 7) MixerInputs) (judgeControlsOf bundle s)) in
-    sample-few s (isDoneOf judged) (sampleOf bundle curves (summerSlotOf topology) topology (controlsOf bundle s) (s .registers .mode) (s .integrator) sum energy) judged
+    sample-few s (isDoneOf judged) (filterSampleOf bundle curves (summerSlotOf topology) topology (controlsOf bundle s) (s .registers .mode) (s .integrator) sum energy) judged
 step-few bundle curves s (CutoffLow v) = rw (no-sample bundle curves s (CutoffLow v) refl) (omega arith)
 step-few bundle curves s (CutoffHigh v) = rw (no-sample bundle curves s (CutoffHigh v) refl) (omega arith)
 step-few bundle curves s (Routing v) = rw (no-sample bundle curves s (Routing v) refl) (omega arith)
@@ -233,7 +233,7 @@ played-few bundle curves s [] = omega arith
 played-few bundle curves s (e ∷ es) = go (isDoneOf (plainStep bundle curves s e .answer)) (played-few bundle curves (plainStep bundle curves s e .state) es)
   where
     go : (d : Bool) → length (playOf bundle curves (plainStep bundle curves s e .state) es .samples) ≤ samplesOf es
-        → length (cond d (went (plainStep bundle curves s e) (playOf bundle curves (plainStep bundle curves s e .state) es)) (stopped (plainStep bundle curves s e .answer) s) .samples) ≤ S.sampleOf e + samplesOf es
+        → length (cond d (went (plainStep bundle curves s e) (playOf bundle curves (plainStep bundle curves s e .state) es)) (stopped (plainStep bundle curves s e .answer) s) .samples) ≤ S.filterSampleOf e + samplesOf es
     go true h =
         let p = plainStep bundle curves s e in
         let r = playOf bundle curves (p .state) es in
@@ -245,7 +245,7 @@ played-few bundle curves s (e ∷ es) = go (isDoneOf (plainStep bundle curves s 
 -- ---- samples on the parts that are kept
 
 row-same-samples : (bundle curves : List ℕ) (t : MixingTopology) (c d : ControlCache) (mode : ℕ)
-    → ((j : IntegratorState) (sum energy : Float) → sampleOf bundle curves (summerSlotOf t) t c mode j sum energy ≡ sampleOf bundle curves (summerSlotOf t) t d mode j sum energy)
+    → ((j : IntegratorState) (sum energy : Float) → filterSampleOf bundle curves (summerSlotOf t) t c mode j sum energy ≡ filterSampleOf bundle curves (summerSlotOf t) t d mode j sum energy)
     → (i : IntegratorState) (es : List Event) → rowOf bundle curves t c mode i es ≡ rowOf bundle curves t d mode i es
 unfolding rowOf
 row-same-samples bundle curves t c d mode same i [] = refl
@@ -253,14 +253,14 @@ row-same-samples bundle curves t c d mode same i (e ∷ es) =
     let x = askedOf e .«input_sum» in
     let y = askedOf e .«source_energy» in
     ap (λ (z : Sampled). cond (askedOf e .sample) (rowOn (λ j. rowOf bundle curves t c mode j es) i z) (noSamples Done i)) (same i x y)
-    ∙ ap (λ (z : Samples). cond (askedOf e .sample) z (noSamples Done i)) (on (sampleOf bundle curves (summerSlotOf t) t d mode i x y) (λ j. row-same-samples bundle curves t c d mode same j es))
+    ∙ ap (λ (z : Samples). cond (askedOf e .sample) z (noSamples Done i)) (on (filterSampleOf bundle curves (summerSlotOf t) t d mode i x y) (λ j. row-same-samples bundle curves t c d mode same j es))
   where
     on : (z : Sampled) → ((j : IntegratorState) → rowOf bundle curves t c mode j es ≡ rowOf bundle curves t d mode j es)
         → rowOn (λ j. rowOf bundle curves t c mode j es) i z ≡ rowOn (λ j. rowOf bundle curves t d mode j es) i z
     on (Taken o j) later = ap (oneMore o) (later j)
     on (Refused answer) later = refl
 
-gain-good : (bundle curves : List ℕ) (s : State) → Good bundle curves s → gainValue (stateGain bundle s) ≡ modeGainOf bundle (s .registers) (effectiveCutoffOf s)
+gain-good : (bundle curves : List ℕ) (s : State) → Good bundle curves s → gainValue (stateGain bundle s) ≡ refreshModeOutputGainOf bundle (s .registers) (effectiveCutoffOf s)
 unfolding readOf
 gain-good bundle curves s good =
     let r = valid-ranges s (good .valid) .resonance in
@@ -270,8 +270,8 @@ gain-good bundle curves s good =
     rw judged refl
 
 parts-sample : (bundle curves : List ℕ) (s : State) → Good bundle curves s → (j : IntegratorState) (sum energy : Float)
-    → sampleOf bundle curves (summerSlotOf (freshTopologyOf s)) (freshTopologyOf s) (cacheOfParts (partsOf bundle s)) (s .registers .mode) j sum energy ≡ sampleOf bundle curves (summerSlotOf (freshTopologyOf s)) (freshTopologyOf s) (controlsOf bundle s) (s .registers .mode) j sum energy
-unfolding partsOf controlsOf filterControlsOf
+    → filterSampleOf bundle curves (summerSlotOf (freshTopologyOf s)) (freshTopologyOf s) (cacheOfParts (partsOf bundle s)) (s .registers .mode) j sum energy ≡ filterSampleOf bundle curves (summerSlotOf (freshTopologyOf s)) (freshTopologyOf s) (controlsOf bundle s) (s .registers .mode) j sum energy
+unfolding partsOf controlsOf refreshFilterControlsOf
 parts-sample bundle curves s good j sum energy =
     sym (kept-is-sample bundle curves (summerSlotOf (freshTopologyOf s)) (freshTopologyOf s) (cacheOfParts (partsOf bundle s)) (s .registers .mode) j sum energy)
     ∙ rw (gain-good bundle curves s good) (kept-is-sample bundle curves (summerSlotOf (freshTopologyOf s)) (freshTopologyOf s) (controlsOf bundle s) (s .registers .mode) j sum energy)
@@ -517,7 +517,7 @@ module _ (bundle curves script : List ℕ) (count : ℕ) (s₀ : State) (out₀ 
             omega arith
         sampled e at false a = let moves = moves-move lent out s samples i far is-m is-d more e at refl a d in omega (arith, onto)
 
-        go : (x : Decoded) → eventAt script (8 + 12 * i) ≡ x → i < r .events
+        go : (x : DecodedEvent) → eventAt script (8 + 12 * i) ≡ x → i < r .events
         go (Readable e) at = sampled e at (askedOf e .sample) refl
         go Unreadable at = absurd (unreadable lent out s samples i far more at)
 

@@ -16,7 +16,7 @@ use Rattle.control.specs.Block.{validOf}
 use Rattle.controls.specs.Judging.{judgeControlsOf}
 use Rattle.script.specs.declared.Event.{Event}
 use Rattle.script.specs.declared.Event.the-variants.{CutoffLow, CutoffHigh, Routing, Mode, Sample, Reset}
-use Rattle.script.specs.declared.Decoded.the-variants.{Readable, Unreadable}
+use Rattle.script.specs.declared.DecodedEvent.the-variants.{Readable, Unreadable}
 use Rattle.script.specs.Script as S
 use Rattle.script.specs.Script.{eventAt, allReadable, eventsIn, samplesOf}
 use Rattle.script.proofs.Laws.{slicesFrom, all-next, events-next, all-stop, events-end}
@@ -106,7 +106,7 @@ module _ (bundle script : List ℕ) (count start : ℕ) (from : State) where
 -- ---- the row is the plain machine's
 
 -- no sample is passed over
-other-none : (e : Event) → askedOf e .sample ≡ false → S.sampleOf e ≡ 0
+other-none : (e : Event) → askedOf e .sample ≡ false → S.sampleCountOf e ≡ 0
 other-none (CutoffLow v) h = refl
 other-none (CutoffHigh v) h = refl
 other-none (Routing v) h = refl

@@ -22,7 +22,7 @@ use Rattle.sample.specs.declared.Sampled.the-variants.{Taken, Refused}
 use Rattle.sample.specs.Sample as S
 use Rattle.script.specs.declared.Event.{Event}
 use Rattle.script.specs.declared.Event.the-variants.{CutoffLow, CutoffHigh, Routing, Mode, Sample, Reset}
-use Rattle.script.specs.Script.{eventsOf, sampleOf, samplesOf}
+use Rattle.script.specs.Script.{eventsOf, sampleCountOf, samplesOf}
 use Rattle.script.proofs.Cut.{samples-append}
 use Rattle.filter.specs.Core.{freshTopologyOf, judgeLentOf}
 use Rattle.filter.specs.Plain.{Plain, refusedAt, plainChange, plainTaken, plainSample, plainStep, plainTrace}
@@ -105,7 +105,7 @@ module _ (bundle curves : List ℕ) where
   taken-counts s (Taken o i) r h = refl
   taken-counts s (Refused a) r h = cc (ap isDoneOf h)
 
-  step-counts : (s : State) (e : Event) → plainStep bundle curves s e .answer ≡ Done → length (plainStep bundle curves s e .sample) ≡ sampleOf e
+  step-counts : (s : State) (e : Event) → plainStep bundle curves s e .answer ≡ Done → length (plainStep bundle curves s e .sample) ≡ sampleCountOf e
   unfolding plainSample
   step-counts s (CutoffLow v) h = change-counts s (writeCutoffLowOf s v)
   step-counts s (CutoffHigh v) h = change-counts s (writeCutoffHighOf s v)
@@ -115,7 +115,7 @@ module _ (bundle curves : List ℕ) where
   step-counts s (Sample sum energy) h =
       let t = freshTopologyOf s in
       let judged = firstOf (unlessOf (finite sum && finite energy) InputNotFinite) (firstOf (unlessOf (leb (t .«mixer_input_count») 7) MixerInputs) (judgeControlsOf bundle s)) in
-      go (isDoneOf judged) judged (S.sampleOf bundle curves (S.summerSlotOf t) t (controlsOf bundle s) (s .registers .mode) (s .integrator) sum energy) refl (sample-refuses bundle curves (S.summerSlotOf t) t (controlsOf bundle s) (s .registers .mode) (s .integrator) sum energy) h
+      go (isDoneOf judged) judged (S.filterSampleOf bundle curves (S.summerSlotOf t) t (controlsOf bundle s) (s .registers .mode) (s .integrator) sum energy) refl (sample-refuses bundle curves (S.summerSlotOf t) t (controlsOf bundle s) (s .registers .mode) (s .integrator) sum energy) h
     where
       go : (d : Bool) (a : Answer) (x : Sampled) → isDoneOf a ≡ d → refuses x ≡ true → cond d (plainTaken s x) (refusedAt s a) .answer ≡ Done → length (cond d (plainTaken s x) (refusedAt s a) .sample) ≡ 1
       go true a x is r h = taken-counts s x r h
@@ -127,9 +127,9 @@ module _ (bundle curves : List ℕ) where
   play-counts s [] h = (refl, refl)
   play-counts s (e ∷ es) h = let p = plainStep bundle curves s e in go (isDoneOf (p .answer)) p (playOf bundle curves (p .state) es) refl (step-counts s e) (play-counts (p .state) es) h
     where
-      go : (d : Bool) (p : Plain) (r : Ran) → isDoneOf (p .answer) ≡ d → (p .answer ≡ Done → length (p .sample) ≡ sampleOf e) → (r .answer ≡ Done → (r .events ≡ length es) × (length (r .samples) ≡ samplesOf es))
+      go : (d : Bool) (p : Plain) (r : Ran) → isDoneOf (p .answer) ≡ d → (p .answer ≡ Done → length (p .sample) ≡ sampleCountOf e) → (r .answer ≡ Done → (r .events ≡ length es) × (length (r .samples) ≡ samplesOf es))
           → cond d (went p r) (stopped (p .answer) s) .answer ≡ Done
-          → (cond d (went p r) (stopped (p .answer) s) .events ≡ suc (length es)) × (length (cond d (went p r) (stopped (p .answer) s) .samples) ≡ sampleOf e + samplesOf es)
+          → (cond d (went p r) (stopped (p .answer) s) .events ≡ suc (length es)) × (length (cond d (went p r) (stopped (p .answer) s) .samples) ≡ sampleCountOf e + samplesOf es)
       go true p r is one rest h = (ap suc (rest h .0), rw (length-append (p .sample) (r .samples), one (done-is (p .answer) is), rest h .1) refl)
       go false p r is one rest h = absurd (true≢false (sym (ap isDoneOf h) ∙ is))
 

@@ -16,15 +16,15 @@ use Rattle.answers.proofs.Laws.{done-is, first-done, unless-done}
 use Rattle.wire.specs.Wire.{u32At, putAt}
 use Rattle.wire.proofs.Laws.{putAt-in, putAt-nil}
 use Rattle.control.specs.declared.State.{State}
-use Rattle.control.specs.declared.Decoded.{Decoded}
-use Rattle.control.specs.declared.Decoded.the-variants.{Valid, Invalid}
+use Rattle.control.specs.declared.DecodedState.{DecodedState}
+use Rattle.control.specs.declared.DecodedState.the-variants.{Valid, Invalid}
 use Rattle.control.specs.Block.{validOf, fieldsOf, decodeOf, encodeOf}
 use Rattle.control.proofs.RoundTrip.{decoded}
 use Rattle.controls.specs.Judging.{judgeControlsOf}
 use Rattle.script.specs.declared.Event.{Event}
 use Rattle.script.specs.declared.Checked.{Checked}
 use Rattle.script.specs.declared.Checked.the-variants.{WellFormed, Refused}
-use Rattle.script.specs.Script.{wellFormed, countOf, slicesOf, allReadable, eventsIn, eventsOf, samplesOf, checkOf}
+use Rattle.script.specs.Script.{wellFormed, eventCountOf, slicesOf, allReadable, eventsIn, eventsOf, samplesOf, checkScriptOf}
 use Rattle.script.proofs.Laws.{slicesFrom, sample-le}
 use Rattle.script.proofs.Cut.{header, events-count}
 use Rattle.filter.specs.Core.{judgeLentOf}
@@ -48,20 +48,20 @@ module _ (script : List ℕ) (room : ℕ) where
       go true h = let le = leb-true n (room / 16) h in sym (le-leb (16 * n) room (omega arith))
       go false h = let lt = leb-false n (room / 16) h in sym (lt-leb (16 * n) room (omega arith))
 
-  pub script-formed : (events samples : ℕ) {x : Checked} → x ≡ checkOf script → x ≡ WellFormed events samples → unlessOf (leb samples (room / 16)) OutputLength ≡ judgeScriptOf script room
-  unfolding checkOf judgeScriptOf
+  pub script-formed : (events samples : ℕ) {x : Checked} → x ≡ checkScriptOf script → x ≡ WellFormed events samples → unlessOf (leb samples (room / 16)) OutputLength ≡ judgeScriptOf script room
+  unfolding checkScriptOf judgeScriptOf
   script-formed events samples e h = go (wellFormed script) refl (sym e ∙ h)
     where
-      go : (t : Bool) → wellFormed script ≡ t → cond t (WellFormed (countOf script) (samplesOf (eventsOf script))) (Refused Script) ≡ WellFormed events samples
+      go : (t : Bool) → wellFormed script ≡ t → cond t (WellFormed (eventCountOf script) (samplesOf (eventsOf script))) (Refused Script) ≡ WellFormed events samples
           → unlessOf (leb samples (room / 16)) OutputLength ≡ firstOf (unlessOf t Script) (unlessOf (leb (16 * samplesOf (eventsOf script)) room) OutputLength)
       go true w p = let n : samples ≡ samplesOf (eventsOf script) = cc in rw (n, fits-is (samplesOf (eventsOf script))) refl
       go false w p = cc
 
-  pub script-refused : (answer : Answer) {x : Checked} → x ≡ checkOf script → x ≡ Refused answer → answer ≡ judgeScriptOf script room
-  unfolding checkOf judgeScriptOf
+  pub script-refused : (answer : Answer) {x : Checked} → x ≡ checkScriptOf script → x ≡ Refused answer → answer ≡ judgeScriptOf script room
+  unfolding checkScriptOf judgeScriptOf
   script-refused answer e h = go (wellFormed script) refl (sym e ∙ h)
     where
-      go : (t : Bool) → wellFormed script ≡ t → cond t (WellFormed (countOf script) (samplesOf (eventsOf script))) (Refused Script) ≡ Refused answer
+      go : (t : Bool) → wellFormed script ≡ t → cond t (WellFormed (eventCountOf script) (samplesOf (eventsOf script))) (Refused Script) ≡ Refused answer
           → answer ≡ firstOf (unlessOf t Script) (unlessOf (leb (16 * samplesOf (eventsOf script)) room) OutputLength)
       go true w p = cc
       go false w p = cc
@@ -97,7 +97,7 @@ module _ (bundle curves script : List ℕ) (s : State) (valid : validOf s ≡ tr
 
   module _ (t : d ≡ true) {count : ℕ} (c : count ≡ u32At script 0) where
     first-is : slicesFrom script count 0 ≡ slicesOf script
-    first-is = rw (c, sub-zero (countOf script)) refl
+    first-is = rw (c, sub-zero (eventCountOf script)) refl
 
     pub start-plays : playOf bundle curves s (eventsIn (slicesFrom script count 0)) ≡ playedOf bundle curves s (eventsOf script)
     unfolding playedOf
@@ -113,11 +113,11 @@ module _ (bundle curves script : List ℕ) (s : State) (valid : validOf s ≡ tr
 -- ---- what is judged before the controls
 
 module _ (bundle curves block script : List ℕ) (room : ℕ) where
-  pub judged-invalid : {x : Decoded} → x ≡ decodeOf block → x ≡ Invalid → firstOf (judgeLentOf bundle curves) Argument ≡ judgeRunOf bundle curves block script room
+  pub judged-invalid : {x : DecodedState} → x ≡ decodeOf block → x ≡ Invalid → firstOf (judgeLentOf bundle curves) Argument ≡ judgeRunOf bundle curves block script room
   unfolding judgeRunOf
   judged-invalid e h = rw (sym e ∙ h) refl
 
-  pub judged-valid : (s : State) {x : Decoded} → x ≡ decodeOf block → x ≡ Valid s
+  pub judged-valid : (s : State) {x : DecodedState} → x ≡ decodeOf block → x ≡ Valid s
       → firstOf (judgeLentOf bundle curves) (judgeScriptOf script room) ≡ judgeRunOf bundle curves block script room
   unfolding judgeRunOf
   judged-valid s e h = rw (sym e ∙ h) refl
@@ -136,7 +136,7 @@ module _ (bundle curves block script : List ℕ) (room : ℕ) where
     block-long : length block ≡ 24
     block-long = go (decodeOf block) refl (unless-done (isValid (decodeOf block)) Argument refl (parts .1))
       where
-        go : (x : Decoded) → decodeOf block ≡ x → isValid x ≡ true → length block ≡ 24
+        go : (x : DecodedState) → decodeOf block ≡ x → isValid x ≡ true → length block ≡ 24
         go (Valid s) e h = decoded block s e .long
         go Invalid e h = absurd (true≢false (sym h))
 
@@ -172,7 +172,7 @@ module _ (bundle curves block script output : List ℕ) (judged : judgeRunOf bun
       (refl, (refl, front))
 
 -- from the state that the block stands for
-module _ (bundle curves block script : List ℕ) (s : State) {x : Decoded} (e : x ≡ decodeOf block) (h : x ≡ Valid s) where
+module _ (bundle curves block script : List ℕ) (s : State) {x : DecodedState} (e : x ≡ decodeOf block) (h : x ≡ Valid s) where
   module _ (room : ℕ) {a : Answer} (is-a : a ≡ firstOf (judgeLentOf bundle curves) (judgeScriptOf script room)) where
     pub valid-judged : a ≡ judgeRunOf bundle curves block script room
     valid-judged = is-a ∙ judged-valid bundle curves block script room s e h
@@ -209,7 +209,7 @@ run-refused bundle curves block script output is off =
 
 -- an invalid block
 pub invalid-refused :
-    (bundle curves block script output : List ℕ) {x : Decoded} → x ≡ decodeOf block → x ≡ Invalid → {a : Answer} → a ≡ firstOf (judgeLentOf bundle curves) Argument
+    (bundle curves block script output : List ℕ) {x : DecodedState} → x ≡ decodeOf block → x ≡ Invalid → {a : Answer} → a ≡ firstOf (judgeLentOf bundle curves) Argument
     → (_≡_ {A = Ended} (record { answer = a; events = 0; samples = 0 }) (endedOf (runOf bundle curves block script output)))
     × ((block ≡ runOf bundle curves block script output .state) × (output ≡ runOf bundle curves block script output .output))
 invalid-refused bundle curves block script output e h is =

@@ -10,13 +10,13 @@ use Rattle.floats.specs.Arithmetic.{f32}
 use Rattle.bundle.specs.declared.Read.{Read}
 use Rattle.bundle.specs.Opening.{judgePlacesOf}
 use Rattle.bundle.specs.Reading.{readOf}
-use Rattle.curves.specs.Sampling.{restingOutputOf, restingPlacesOf}
+use Rattle.curves.specs.Sampling.{summerRestingOutputOf, summerRestingPlacesOf}
 use Rattle.sample.specs.Sample.{summerInputsOf}
 use Rattle.bundle.specs.declared.Read.the-variants.{Value, Refused}
 use Rattle.control.specs.declared.State.{State}
 use Rattle.control.specs.Registers.{effectiveCutoffOf}
 use Rattle.controls.specs.declared.ControlCache.{ControlCache}
-use Rattle.controls.specs.Controls.{filterControlsOf}
+use Rattle.controls.specs.Controls.{refreshFilterControlsOf}
 use Rattle.controls.specs.Judging.{judgeFilterOf}
 use Rattle.kept.specs.Kept.{coreControlsOf, inputDrives, feedbackDrives, gainOf}
 use Rattle.sample.specs.Kept.{cacheOf, restOf}
@@ -44,7 +44,7 @@ stateGain bundle s = gainOf bundle (s .registers) (effectiveCutoffOf s)
 -- all of it, worked out afresh from a state
 unfoldable pub partsOf : List ℕ → State → Parts
 partsOf bundle s =
-    let f = filterControlsOf bundle (effectiveCutoffOf s) (s .registers .resonance) in
+    let f = refreshFilterControlsOf bundle (effectiveCutoffOf s) (s .registers .resonance) in
     record {
       topology = freshTopologyOf s;
       gains = f .«integrator_gain»;
@@ -68,7 +68,7 @@ movesEnd bundle events m = record { answer = m .answer; events = events + m .eve
 abbrev pub restingOf : List ℕ → ℕ → Resting
 restingOf bundle count =
     let inputs = summerInputsOf count in
-    record { inputs = count; rest = readOf (judgePlacesOf Bundle bundle (restingPlacesOf inputs)) (restingOutputOf bundle inputs) }
+    record { inputs = count; rest = readOf (judgePlacesOf Bundle bundle (summerRestingPlacesOf inputs)) (summerRestingOutputOf bundle inputs) }
 
 -- the controls that a sample reads of the parts
 abbrev pub cacheOfParts : Parts → ControlCache

@@ -42,8 +42,8 @@ abbrev pub told : Run → Told
 told r = record { answer = r .answer; events = r .events; samples = r .samples; bytes = take (16 * r .samples) (r .output); block = r .state }
 
 -- of the events that were done
-abbrev pub toldOf : Ran → Told
-toldOf r = record { answer = r .answer; events = r .events; samples = length (r .samples); bytes = sampleBytes (r .samples); block = blockOf (r .state) }
+abbrev pub toldRan : Ran → Told
+toldRan r = record { answer = r .answer; events = r .events; samples = length (r .samples); bytes = sampleBytes (r .samples); block = blockOf (r .state) }
 
 -- pieces add events and samples up and join the bytes; the rest is the last run piece's
 abbrev pub joinTold : Told → Told → Told
@@ -59,4 +59,4 @@ piecesOf bundle curves block p (q ∷ rest) =
 unfoldable pub plainTold : List ℕ → List ℕ → State → List Event → Told
 plainTold bundle curves s es =
     let started = plainStart bundle curves s in
-    toldOf (cond (isDoneOf started) (playOf bundle curves s es) (stopped started s))
+    toldRan (cond (isDoneOf started) (playOf bundle curves s es) (stopped started s))

@@ -16,7 +16,7 @@ use Rattle.controls.specs.declared.ControlCache.{ControlCache}
 use Rattle.sample.specs.declared.Outputs.{Outputs}
 use Rattle.sample.specs.declared.Sampled.{Sampled}
 use Rattle.sample.specs.declared.Sampled.the-variants.{Taken, Refused}
-use Rattle.sample.specs.Sample.{summerSlotOf, sampleOf}
+use Rattle.sample.specs.Sample.{summerSlotOf, filterSampleOf}
 use Rattle.script.specs.declared.Event.{Event}
 use Rattle.script.specs.declared.Event.the-variants.{CutoffLow, CutoffHigh, Routing, Mode, Sample, Reset}
 use Rattle.run.specs.declared.Asked.{Asked}
@@ -59,7 +59,7 @@ unfoldable pub rowOf : List ℕ → List ℕ → MixingTopology → ControlCache
 rowOf bundle curves t c mode i [] = noSamples Done i
 rowOf bundle curves t c mode i (e ∷ es) =
     cond (askedOf e .sample)
-    (rowOn (λ j. rowOf bundle curves t c mode j es) i (sampleOf bundle curves (summerSlotOf t) t c mode i (askedOf e .«input_sum») (askedOf e .«source_energy»)))
+    (rowOn (λ j. rowOf bundle curves t c mode j es) i (filterSampleOf bundle curves (summerSlotOf t) t c mode i (askedOf e .«input_sum») (askedOf e .«source_energy»)))
     (noSamples Done i)
 
 -- The state that an event which is no sample leads to.

@@ -10,8 +10,8 @@ use Rattle.answers.specs.declared.Answer.the-variants.{Done, Argument, Script, 
 use Rattle.answers.specs.Answers.{firstOf, unlessOf, isDoneOf}
 use Rattle.wire.specs.Wire.{rowBytes}
 use Rattle.control.specs.declared.State.{State}
-use Rattle.control.specs.declared.Decoded.{Decoded}
-use Rattle.control.specs.declared.Decoded.the-variants.{Valid, Invalid}
+use Rattle.control.specs.declared.DecodedState.{DecodedState}
+use Rattle.control.specs.declared.DecodedState.the-variants.{Valid, Invalid}
 use Rattle.control.specs.Block.{blockOf, fieldsOf, decodeOf}
 use Rattle.controls.specs.Judging.{judgeControlsOf}
 use Rattle.sample.specs.declared.Outputs.{Outputs}
@@ -59,7 +59,7 @@ unfoldable pub sampleBytes : List Outputs → List ℕ
 sampleBytes [] = []
 sampleBytes (o ∷ os) = outputBytes o ++ sampleBytes os
 
-abbrev pub isValid : Decoded → Bool
+abbrev pub isValid : DecodedState → Bool
 isValid (Valid s) = true
 isValid Invalid = false
 

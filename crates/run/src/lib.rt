@@ -27,7 +27,7 @@ use mixing::MixingTopology;
 use sample::Outputs;
 use sample::Sampled;
 use script::Checked;
-use script::Decoded;
+use script::DecodedEvent;
 use script::Event;
 
 // What a run answers: done or its refusal, the events done and the samples written.
@@ -272,7 +272,7 @@ fn play_samples(
     let mut samples = before;
     let mut i = start;
     while i < count {
-        let Decoded::Readable(event) = script::event_at(script, 8 + 12 * i) else {
+        let DecodedEvent::Readable(event) = script::event_at(script, 8 + 12 * i) else {
             return Row {
                 answer: Answer::Script,
                 events: i,
@@ -349,7 +349,7 @@ fn play_changes(
     let mut gain = given;
     let mut i = start;
     while i < count {
-        let Decoded::Readable(event) = script::event_at(script, 8 + 12 * i) else {
+        let DecodedEvent::Readable(event) = script::event_at(script, 8 + 12 * i) else {
             return Moved {
                 answer: Answer::Script,
                 events: i,
@@ -518,7 +518,7 @@ pub fn run(
     ensures { λ _. ⌜ now (output .exit) ≡ R.runOf (now (bundle .entry)) (now (curves .entry)) (now (state .entry)) (now (script .entry)) (now (output .entry)) .output ⌝ }
 {
     let lent = filter::judge_lent(bundle, curves);
-    let control::Decoded::Valid(from) = State::decode(state) else {
+    let control::DecodedEvent::Valid(from) = State::decode(state) else {
         return turned_back(answers::first(lent, Answer::Argument));
     };
     let judged = answers::first(lent, judge_script(script, output.len()));

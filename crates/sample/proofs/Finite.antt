@@ -13,14 +13,14 @@ use Rattle.integrator.specs.declared.Advanced.{Advanced}
 use Rattle.integrator.specs.declared.FilterOutputs.{FilterOutputs}
 use Rattle.integrator.specs.declared.Substeps.{Substeps}
 use Rattle.integrator.specs.declared.Substeps.the-variants.{Settled, NotFinite}
-use Rattle.integrator.specs.Integrator.{advanceOf, stateFinite, settledOf, substepOf, thenOf, fourSubstepsOf}
+use Rattle.integrator.specs.Integrator.{advanceOf, stateFinite, inDomain, substepOf, thenOf, fourSubstepsOf}
 use Rattle.mixing.specs.declared.MixingTopology.{MixingTopology}
 use Rattle.controls.specs.declared.FilterControls.{FilterControls}
 use Rattle.controls.specs.declared.ControlCache.{ControlCache}
 use Rattle.sample.specs.declared.Outputs.{Outputs}
 use Rattle.sample.specs.declared.Sampled.{Sampled}
 use Rattle.sample.specs.declared.Sampled.the-variants.{Taken, Refused}
-use Rattle.sample.specs.Sample.{idleOf, movedOf, atRestOf, advanceCoreOf, selectOf, judgeSampleOf, outputsFinite, takenOf, sampleOf}
+use Rattle.sample.specs.Sample.{isIdleOf, movedOf, atRestOf, advanceFilterCoreOf, selectFilterOutputOf, judgeSampleOf, outputsFinite, takenOf, filterSampleOf}
 
 abbrev three : FilterOutputs → Bool
 three o = finite (o .«high_pass») && finite (o .«band_pass») && finite (o .«low_pass»)
@@ -41,8 +41,8 @@ last-three false h b l e = absurd (true≢false (sym e))
 
 module _ (driven : Float) (k : Coefficients) where
   substep-moves : (s : IntegratorState) → moves (substepOf s driven k) ≡ true
-  unfolding substepOf settledOf moves
-  substep-moves s = go (settledOf a) (last-three (stateFinite (a .state)) _ _ _)
+  unfolding substepOf inDomain moves
+  substep-moves s = go (inDomain a) (last-three (stateFinite (a .state)) _ _ _)
     where
       a : Advanced
       a = advanceOf s driven k
@@ -73,18 +73,18 @@ either false p h g = g
 taken-takes : (c : ControlCache) (count mode : ℕ) (b : Substeps) → moves b ≡ true → takes (takenOf c count mode b) ≡ true
 unfolding moves takes takenOf
 taken-takes c count mode NotFinite h = refl
-taken-takes c count mode (Settled a) h = go (finite (selectOf c count mode (a .outputs))) refl
+taken-takes c count mode (Settled a) h = go (finite (selectFilterOutputOf c count mode (a .outputs))) refl
   where
-    go : (t : Bool) → finite (selectOf c count mode (a .outputs)) ≡ t → takes (cond t (Taken (record { high = a .outputs .«high_pass»; band = a .outputs .«band_pass»; low = a .outputs .«low_pass»; selected = selectOf c count mode (a .outputs) }) (a .state)) (Refused Domain)) ≡ true
+    go : (t : Bool) → finite (selectFilterOutputOf c count mode (a .outputs)) ≡ t → takes (cond t (Taken (record { high = a .outputs .«high_pass»; band = a .outputs .«band_pass»; low = a .outputs .«low_pass»; selected = selectFilterOutputOf c count mode (a .outputs) }) (a .state)) (Refused Domain)) ≡ true
     go true e = rw (h, e)
     go false e = refl
 
 -- what a sample gives, where it is taken
 pub outputs-finite : (bundle curves : List ℕ) (slot : ℕ) (t : MixingTopology) (c : ControlCache) (mode : ℕ) (s : IntegratorState) (sum energy : Float) {x : Sampled} (o : Outputs) (j : IntegratorState)
-    → x ≡ sampleOf bundle curves slot t c mode s sum energy → x ≡ Taken o j → outputsFinite o ≡ true
-unfolding sampleOf advanceCoreOf takes
+    → x ≡ filterSampleOf bundle curves slot t c mode s sum energy → x ≡ Taken o j → outputsFinite o ≡ true
+unfolding filterSampleOf advanceFilterCoreOf takes
 outputs-finite bundle curves slot t c mode s sum energy o j is got =
     ap takes (sym got ∙ is)
     ∙ either (isDoneOf (judgeSampleOf bundle curves slot t s sum energy)) takes
-    (taken-takes c (t .«filter_output_count») mode _ (either (idleOf (t .«filter_input_count») s) moves (rest-moves s) (moved-moves (c .filter) s _ _)))
+    (taken-takes c (t .«filter_output_count») mode _ (either (isIdleOf (t .«filter_input_count») s) moves (rest-moves s) (moved-moves (c .filter) s _ _)))
     refl

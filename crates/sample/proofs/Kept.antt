@@ -17,15 +17,15 @@ use Rattle.bundle.specs.Reading.{readOf}
 use Rattle.controls.specs.declared.ControlCache.{ControlCache}
 use Rattle.kept.specs.declared.CoreControls.{CoreControls}
 use Rattle.kept.specs.Kept.{coreControlsOf}
-use Rattle.sample.specs.declared.Fed.{Fed}
-use Rattle.sample.specs.declared.Fed.the-variants.{Idle, Level, Refused as Unfed}
-use Rattle.sample.specs.Sample.{summerOf, judgeSummerOf, idleOf, movedOf, atRestOf, advanceCoreOf, mixedOf, selectOf, judgeSampleOf, takenOf, sampleOf}
-use Rattle.sample.specs.Kept.{cacheOf, restOf, aboveOf, feedOf, steppedOf, sampleKeptOf}
+use Rattle.sample.specs.declared.CoreInput.{CoreInput}
+use Rattle.sample.specs.declared.CoreInput.the-variants.{Idle, Level, Refused as Unfed}
+use Rattle.sample.specs.Sample.{summerTransferOf, judgeSummerOf, isIdleOf, movedOf, atRestOf, advanceFilterCoreOf, mixedOf, selectFilterOutputOf, judgeSampleOf, takenOf, filterSampleOf}
+use Rattle.sample.specs.Kept.{cacheOf, restOf, aboveOf, coreInputOf, steppedOf, sampleKeptOf}
 
 -- The selection reads no table.
 pub taken-parts : (gains input-drives feedback-drives : List Float) (core : CoreControls) (gain : Float) (count mode : ℕ) (moved : Substeps)
     → takenOf (cacheOf [] [] [] core gain) count mode moved ≡ takenOf (cacheOf gains input-drives feedback-drives core gain) count mode moved
-unfolding takenOf selectOf mixedOf
+unfolding takenOf selectFilterOutputOf mixedOf
 taken-parts gains input-drives feedback-drives core gain count mode NotFinite = refl
 taken-parts gains input-drives feedback-drives core gain count mode (Settled a) = refl
 
@@ -45,28 +45,28 @@ module _ (bundle curves : List ℕ) (slot : ℕ) (t : MixingTopology) (c : Contr
   parts = cacheOf (c .filter .«integrator_gain») (c .filter .«input_drive») (c .filter .«feedback_drive») (coreControlsOf (c .filter)) (c .«mode_output_gain»)
 
   same-taken : (moved : Substeps) → takenOf parts (t .«filter_output_count») mode moved ≡ takenOf c (t .«filter_output_count») mode moved
-  unfolding takenOf selectOf mixedOf
+  unfolding takenOf selectFilterOutputOf mixedOf
   same-taken NotFinite = refl
   same-taken (Settled a) = refl
 
-  same-stepped : (fed : Fed) → steppedOf t parts mode s energy fed ≡ steppedOf t c mode s energy fed
+  same-stepped : (fed : CoreInput) → steppedOf t parts mode s energy fed ≡ steppedOf t c mode s energy fed
   unfolding steppedOf movedOf
   same-stepped Idle = same-taken (atRestOf s)
   same-stepped (Level x) = same-taken _
   same-stepped (Unfed a) = refl
 
-  plain : steppedOf t c mode s energy (feedOf curves slot t (restOf bundle t) s sum energy) ≡ sampleOf bundle curves slot t c mode s sum energy
-  unfolding steppedOf feedOf sampleOf judgeSampleOf advanceCoreOf judgeSummerOf summerOf
-  plain = go (finite sum && finite energy) (leb (t .«mixer_input_count») 7) (idleOf (t .«filter_input_count») s) (isDoneOf (judgeSummerOf bundle curves slot t sum)) refl refl refl refl
+  plain : steppedOf t c mode s energy (coreInputOf curves slot t (restOf bundle t) s sum energy) ≡ filterSampleOf bundle curves slot t c mode s sum energy
+  unfolding steppedOf coreInputOf filterSampleOf judgeSampleOf advanceFilterCoreOf judgeSummerOf summerTransferOf
+  plain = go (finite sum && finite energy) (leb (t .«mixer_input_count») 7) (isIdleOf (t .«filter_input_count») s) (isDoneOf (judgeSummerOf bundle curves slot t sum)) refl refl refl refl
     where
-      go : (f l i d : Bool) → (finite sum && finite energy) ≡ f → leb (t .«mixer_input_count») 7 ≡ l → idleOf (t .«filter_input_count») s ≡ i
+      go : (f l i d : Bool) → (finite sum && finite energy) ≡ f → leb (t .«mixer_input_count») 7 ≡ l → isIdleOf (t .«filter_input_count») s ≡ i
           → isDoneOf (judgeSummerOf bundle curves slot t sum) ≡ d
-          → steppedOf t c mode s energy (feedOf curves slot t (restOf bundle t) s sum energy) ≡ sampleOf bundle curves slot t c mode s sum energy
+          → steppedOf t c mode s energy (coreInputOf curves slot t (restOf bundle t) s sum energy) ≡ filterSampleOf bundle curves slot t c mode s sum energy
       go false l i d e g h k = simp e
       go true false i d e g h k = simp (e, g)
       go true true true d e g h k = simp (e, g, h)
       go true true false true e g h k = simp (e, g, h, above-read, k)
       go true true false false e g h k = simp (e, g, h, above-read, k)
 
-  pub kept-is-sample : sampleKeptOf curves slot t parts (restOf bundle t) mode s sum energy ≡ sampleOf bundle curves slot t c mode s sum energy
-  kept-is-sample = same-stepped (feedOf curves slot t (restOf bundle t) s sum energy) ∙ plain
+  pub kept-is-sample : sampleKeptOf curves slot t parts (restOf bundle t) mode s sum energy ≡ filterSampleOf bundle curves slot t c mode s sum energy
+  kept-is-sample = same-stepped (coreInputOf curves slot t (restOf bundle t) s sum energy) ∙ plain

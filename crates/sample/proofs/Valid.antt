@@ -17,23 +17,23 @@ use Rattle.integrator.specs.declared.Coefficients.{Coefficients}
 use Rattle.integrator.specs.declared.Advanced.{Advanced}
 use Rattle.integrator.specs.declared.Substeps.{Substeps}
 use Rattle.integrator.specs.declared.Substeps.the-variants.{Settled, NotFinite}
-use Rattle.integrator.specs.Integrator.{advanceOf, settledOf, substepOf, thenOf, fourSubstepsOf}
+use Rattle.integrator.specs.Integrator.{advanceOf, inDomain, substepOf, thenOf, fourSubstepsOf}
 use Rattle.mixing.specs.declared.MixingTopology.{MixingTopology}
-use Rattle.control.specs.Block.{finiteF32, finiteFloats}
+use Rattle.control.specs.Block.{finiteF32Of, finiteFloatsOf}
 use Rattle.controls.specs.declared.FilterControls.{FilterControls}
 use Rattle.controls.specs.declared.ControlCache.{ControlCache}
 use Rattle.sample.specs.declared.Outputs.{Outputs}
 use Rattle.sample.specs.declared.Sampled.{Sampled}
 use Rattle.sample.specs.declared.Sampled.the-variants.{Taken, Refused}
-use Rattle.sample.specs.Sample.{idleOf, trackedOf, fedOf, summerOf, movedOf, atRestOf, advanceCoreOf, selectOf, judgeSampleOf, takenOf, sampleOf}
+use Rattle.sample.specs.Sample.{isIdleOf, trackedEnergyOf, fedEnergyOf, summerTransferOf, movedOf, atRestOf, advanceFilterCoreOf, selectFilterOutputOf, judgeSampleOf, takenOf, filterSampleOf}
 
 -- the numbers of the state after it, where there is one
 unfoldable finiteAfter : Substeps → Bool
-finiteAfter (Settled a) = finiteFloats (a .state)
+finiteAfter (Settled a) = finiteFloatsOf (a .state)
 finiteAfter NotFinite = true
 
 unfoldable pub finiteTaken : Sampled → Bool
-finiteTaken (Taken outputs s) = finiteFloats s
+finiteTaken (Taken outputs s) = finiteFloatsOf s
 finiteTaken (Refused answer) = true
 
 -- ---- the floats
@@ -55,19 +55,19 @@ energy-of-three true true false d h = absurd (true≢false (sym h))
 energy-of-three true false c d h = absurd (true≢false (sym h))
 energy-of-three false b c d h = absurd (true≢false (sym h))
 
-energy-fits : (i : IntegratorState) → finiteFloats i ≡ true → fits binary32 (i .«filter_source_energy») ≡ true
-unfolding finiteFloats finiteF32
-energy-fits i h = energy-of-three (finiteF32 (i .«band_state»)) (finiteF32 (i .«low_state»)) (fits binary32 (i .«filter_source_energy»)) (finite (i .«filter_source_energy»)) h
+energy-fits : (i : IntegratorState) → finiteFloatsOf i ≡ true → fits binary32 (i .«filter_source_energy») ≡ true
+unfolding finiteFloatsOf finiteF32Of
+energy-fits i h = energy-of-three (finiteF32Of (i .«band_state»)) (finiteF32Of (i .«low_state»)) (fits binary32 (i .«filter_source_energy»)) (finite (i .«filter_source_energy»)) h
 
 -- ---- the substeps
 
-settled-or-not : (a : Advanced) (t : Bool) → (t ≡ true → finiteFloats (a .state) ≡ true) → finiteAfter (cond t (Settled a) NotFinite) ≡ true
+settled-or-not : (a : Advanced) (t : Bool) → (t ≡ true → finiteFloatsOf (a .state) ≡ true) → finiteAfter (cond t (Settled a) NotFinite) ≡ true
 unfolding finiteAfter
 settled-or-not a true h = h refl
 settled-or-not a false h = refl
 
-settled-finite : (a : Advanced) → T (fits binary32 (a .state .«band_state»)) → T (fits binary32 (a .state .«low_state»)) → fits binary32 (a .state .«filter_source_energy») ≡ true → settledOf a ≡ true → finiteFloats (a .state) ≡ true
-unfolding settledOf finiteFloats finiteF32
+settled-finite : (a : Advanced) → T (fits binary32 (a .state .«band_state»)) → T (fits binary32 (a .state .«low_state»)) → fits binary32 (a .state .«filter_source_energy») ≡ true → inDomain a ≡ true → finiteFloatsOf (a .state) ≡ true
+unfolding inDomain finiteFloatsOf finiteF32Of
 settled-finite a p q r h =
     let s = a .state in
     let o = a .outputs in
@@ -92,7 +92,7 @@ module _ (driven : Float) (k : Coefficients) where
 
   substep-kept : (s : IntegratorState) → fits binary32 (s .«filter_source_energy») ≡ true → finiteAfter (substepOf s driven k) ≡ true
   unfolding substepOf
-  substep-kept s e = settled-or-not (advanceOf s driven k) (settledOf (advanceOf s driven k)) (settled-finite (advanceOf s driven k) (band-fits s) (low-fits s) (energy-stays s e))
+  substep-kept s e = settled-or-not (advanceOf s driven k) (inDomain (advanceOf s driven k)) (settled-finite (advanceOf s driven k) (band-fits s) (low-fits s) (energy-stays s e))
 
   then-kept : (b : Substeps) → finiteAfter b ≡ true → finiteAfter (thenOf b driven k) ≡ true
   unfolding finiteAfter thenOf
@@ -113,7 +113,7 @@ either : (t : Bool) (x y : Sampled) → finiteTaken x ≡ true → finiteTaken y
 either true x y p q = p
 either false x y p q = q
 
-state-kept : (o : Outputs) (s : IntegratorState) → finiteFloats s ≡ true → finiteTaken (Taken o s) ≡ true
+state-kept : (o : Outputs) (s : IntegratorState) → finiteFloatsOf s ≡ true → finiteTaken (Taken o s) ≡ true
 unfolding finiteTaken
 state-kept o s h = h
 
@@ -126,30 +126,30 @@ unfolding finiteAfter takenOf
 taken-kept c count mode NotFinite h = refused-kept Domain
 taken-kept c count mode (Settled a) h =
     let o = a .outputs in
-    let selected = selectOf c count mode o in
+    let selected = selectFilterOutputOf c count mode o in
     let outputs : Outputs = record { high = o .«high_pass»; band = o .«band_pass»; low = o .«low_pass»; selected = selected } in
     either (finite selected) (Taken outputs (a .state)) (Refused Domain) (state-kept outputs (a .state) h) (refused-kept Domain)
 
-rested : (t : Bool) (s : IntegratorState) (b : Substeps) → finiteFloats s ≡ true → finiteAfter b ≡ true → finiteAfter (cond t (atRestOf s) b) ≡ true
+rested : (t : Bool) (s : IntegratorState) (b : Substeps) → finiteFloatsOf s ≡ true → finiteAfter b ≡ true → finiteAfter (cond t (atRestOf s) b) ≡ true
 unfolding finiteAfter
 rested true s b p q = p
 rested false s b p q = q
 
 module _ (bundle curves : List ℕ) (slot : ℕ) (t : MixingTopology) (s : IntegratorState) (sum energy : Float) where
-  core-kept : (f : FilterControls) → finiteFloats s ≡ true → finiteAfter (advanceCoreOf bundle curves slot t f s sum energy) ≡ true
-  unfolding advanceCoreOf
+  core-kept : (f : FilterControls) → finiteFloatsOf s ≡ true → finiteAfter (advanceFilterCoreOf bundle curves slot t f s sum energy) ≡ true
+  unfolding advanceFilterCoreOf
   core-kept f h =
       let tracked = s .«filter_source_energy» in
-      let fed = fedOf (t .«filter_input_count») (t .«filter_input_reciprocal») energy in
-      let input = summerOf bundle curves slot t sum ⊗ K.FILTER-INPUT-GAIN in
-      rested (idleOf (t .«filter_input_count») s) s (movedOf f s input (trackedOf tracked fed)) h
-      (moved-kept f s input (trackedOf tracked fed) (holds (fits binary32 (trackedOf tracked fed)) (add-fits binary32 tracked (K.FILTER-SOURCE-ENERGY-TRACKING ⊗ (fed ⊖ tracked)))))
+      let fed = fedEnergyOf (t .«filter_input_count») (t .«filter_input_reciprocal») energy in
+      let input = summerTransferOf bundle curves slot t sum ⊗ K.FILTER-INPUT-GAIN in
+      rested (isIdleOf (t .«filter_input_count») s) s (movedOf f s input (trackedEnergyOf tracked fed)) h
+      (moved-kept f s input (trackedEnergyOf tracked fed) (holds (fits binary32 (trackedEnergyOf tracked fed)) (add-fits binary32 tracked (K.FILTER-SOURCE-ENERGY-TRACKING ⊗ (fed ⊖ tracked)))))
 
   -- the state after a sample, where it was taken
-  pub sample-kept : (c : ControlCache) (mode : ℕ) → finiteFloats s ≡ true → finiteTaken (sampleOf bundle curves slot t c mode s sum energy) ≡ true
-  unfolding sampleOf
+  pub sample-kept : (c : ControlCache) (mode : ℕ) → finiteFloatsOf s ≡ true → finiteTaken (filterSampleOf bundle curves slot t c mode s sum energy) ≡ true
+  unfolding filterSampleOf
   sample-kept c mode h =
       let judged = judgeSampleOf bundle curves slot t s sum energy in
       let count = t .«filter_output_count» in
-      let moved = advanceCoreOf bundle curves slot t (c .filter) s sum energy in
+      let moved = advanceFilterCoreOf bundle curves slot t (c .filter) s sum energy in
       either (isDoneOf judged) (takenOf c count mode moved) (Refused judged) (taken-kept c count mode moved (core-kept (c .filter) h)) (refused-kept judged)

@@ -1,5 +1,5 @@
 -- The sample on parts that a run keeps: the tables of the operating bins and the core's numbers apart, and the summer's rest worked out before.
--- Kept.antt of proofs/ shows that on the parts of a `ControlCache` and a topology's rest it is `sampleOf`.
+-- Kept.antt of proofs/ shows that on the parts of a `ControlCache` and a topology's rest it is `filterSampleOf`.
 use Prim.Native.Nat.{ℕ}
 use mathlib.Core.Bool.{false, cond, _&&_}
 use mathlib.Core.List.{List}
@@ -16,15 +16,15 @@ use Rattle.bundle.specs.declared.Read.{Read}
 use Rattle.bundle.specs.declared.Read.the-variants.{Value, Refused as Unread}
 use Rattle.bundle.specs.Opening.{judgePlacesOf}
 use Rattle.bundle.specs.Reading.{readOf}
-use Rattle.curves.specs.Sampling.{sampleCurveOf, sampleCurvePlacesOf, restingOutputOf, restingPlacesOf}
+use Rattle.curves.specs.Sampling.{sampleCurveOf, sampleCurvePlacesOf, summerRestingOutputOf, summerRestingPlacesOf}
 use Rattle.controls.specs.declared.FilterControls.{FilterControls}
 use Rattle.controls.specs.declared.ControlCache.{ControlCache}
 use Rattle.kept.specs.declared.CoreControls.{CoreControls}
-use Rattle.sample.specs.declared.Fed.{Fed}
-use Rattle.sample.specs.declared.Fed.the-variants.{Idle, Level, Refused as Unfed}
+use Rattle.sample.specs.declared.CoreInput.{CoreInput}
+use Rattle.sample.specs.declared.CoreInput.the-variants.{Idle, Level, Refused as Unfed}
 use Rattle.sample.specs.declared.Sampled.{Sampled}
 use Rattle.sample.specs.declared.Sampled.the-variants.{Refused}
-use Rattle.sample.specs.Sample.{summerInputsOf, averageOf, idleOf, fedOf, trackedOf, movedOf, atRestOf, takenOf}
+use Rattle.sample.specs.Sample.{summerInputsOf, averageOf, isIdleOf, fedEnergyOf, trackedEnergyOf, movedOf, atRestOf, takenOf}
 
 -- ---- the controls that parts make, with 0 in the fields that no sample reads
 
@@ -69,40 +69,40 @@ cacheOf gains input-drives feedback-drives core gain =
 abbrev pub restOf : List ℕ → MixingTopology → Read
 restOf bundle t =
     let inputs = summerInputsOf (t .«filter_input_count») in
-    readOf (judgePlacesOf Bundle bundle (restingPlacesOf inputs)) (restingOutputOf bundle inputs)
+    readOf (judgePlacesOf Bundle bundle (summerRestingPlacesOf inputs)) (summerRestingOutputOf bundle inputs)
 
-abbrev pub curveOf : List ℕ → ℕ → MixingTopology → Float → Read
-curveOf curves slot t sum =
+abbrev pub summerCurveOf : List ℕ → ℕ → MixingTopology → Float → Read
+summerCurveOf curves slot t sum =
     readOf (judgePlacesOf Curves curves (sampleCurvePlacesOf slot (averageOf t sum))) (sampleCurveOf curves slot (averageOf t sum))
 
 -- the curve above the rest; the curve's entries are judged first
-unfoldable pub aboveOf : Read → Read → Fed
+unfoldable pub aboveOf : Read → Read → CoreInput
 aboveOf (Unread a) rest = Unfed a
 aboveOf (Value x) (Unread a) = Unfed a
 aboveOf (Value x) (Value rest) = Level (x ⊖ rest)
 
-abbrev pub summedOf : List ℕ → ℕ → MixingTopology → Read → Float → Fed
-summedOf curves slot t rest sum = aboveOf (curveOf curves slot t sum) rest
+abbrev pub summedOf : List ℕ → ℕ → MixingTopology → Read → Float → CoreInput
+summedOf curves slot t rest sum = aboveOf (summerCurveOf curves slot t sum) rest
 
 -- ---- the sample
 
 -- 5, 9, and 3 where the sample is not idle
-unfoldable pub feedOf : List ℕ → ℕ → MixingTopology → Read → IntegratorState → Float → Float → Fed
-feedOf curves slot t rest s sum energy =
+unfoldable pub coreInputOf : List ℕ → ℕ → MixingTopology → Read → IntegratorState → Float → Float → CoreInput
+coreInputOf curves slot t rest s sum energy =
     cond (finite sum && finite energy)
     (cond (leb (t .«mixer_input_count») 7)
-    (cond (idleOf (t .«filter_input_count») s) Idle (summedOf curves slot t rest sum))
+    (cond (isIdleOf (t .«filter_input_count») s) Idle (summedOf curves slot t rest sum))
     (Unfed MixerInputs))
     (Unfed InputNotFinite)
 
 -- `advance_filter_core` from what the summer gives, and `select_filter_output`
-unfoldable pub steppedOf : MixingTopology → ControlCache → ℕ → IntegratorState → Float → Fed → Sampled
+unfoldable pub steppedOf : MixingTopology → ControlCache → ℕ → IntegratorState → Float → CoreInput → Sampled
 steppedOf t c mode s energy Idle = takenOf c (t .«filter_output_count») mode (atRestOf s)
 steppedOf t c mode s energy (Unfed a) = Refused a
 steppedOf t c mode s energy (Level x) =
     takenOf c (t .«filter_output_count») mode
     (movedOf (c .filter) s (x ⊗ K.FILTER-INPUT-GAIN)
-    (trackedOf (s .«filter_source_energy») (fedOf (t .«filter_input_count») (t .«filter_input_reciprocal») energy)))
+    (trackedEnergyOf (s .«filter_source_energy») (fedEnergyOf (t .«filter_input_count») (t .«filter_input_reciprocal») energy)))
 
 abbrev pub sampleKeptOf : List ℕ → ℕ → MixingTopology → ControlCache → Read → ℕ → IntegratorState → Float → Float → Sampled
-sampleKeptOf curves slot t c rest mode s sum energy = steppedOf t c mode s energy (feedOf curves slot t rest s sum energy)
+sampleKeptOf curves slot t c rest mode s sum energy = steppedOf t c mode s energy (coreInputOf curves slot t rest s sum energy)

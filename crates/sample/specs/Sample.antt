@@ -21,11 +21,11 @@ use Rattle.integrator.specs.declared.Substeps.{Substeps}
 use Rattle.integrator.specs.declared.Substeps.the-variants.{Settled, NotFinite}
 use Rattle.integrator.specs.Integrator.{saturateOf, fourSubstepsOf}
 use Rattle.response.specs.declared.TablePosition.{TablePosition}
-use Rattle.response.specs.Levels.{between, quiescentLevelOf}
+use Rattle.response.specs.Levels.{interpolateOf, filterModeQuiescentLevelOf}
 use Rattle.response.specs.Position.{operatingPositionOf}
 use Rattle.mixing.specs.declared.MixingTopology.{MixingTopology}
 use Rattle.bundle.specs.Opening.{judgePlacesOf}
-use Rattle.curves.specs.Sampling.{sampleCurveOf, sampleCurvePlacesOf, restingOutputOf, restingPlacesOf}
+use Rattle.curves.specs.Sampling.{sampleCurveOf, sampleCurvePlacesOf, summerRestingOutputOf, summerRestingPlacesOf}
 use Rattle.controls.specs.declared.FilterControls.{FilterControls}
 use Rattle.controls.specs.declared.ControlCache.{ControlCache}
 use Rattle.sample.specs.declared.Outputs.{Outputs}
@@ -47,36 +47,36 @@ summerSlotOf t = summerInputsOf (t .«filter_input_count»)
 
 -- (input_sum + 2.0 * quiescent) * summer_input_reciprocal
 abbrev pub averageOf : MixingTopology → Float → Float
-averageOf t sum = (sum ⊕ f32 0x4000_0000 ⊗ quiescentLevelOf) ⊗ t .«summer_input_reciprocal»
+averageOf t sum = (sum ⊕ f32 0x4000_0000 ⊗ filterModeQuiescentLevelOf) ⊗ t .«summer_input_reciprocal»
 
-unfoldable pub summerOf : List ℕ → List ℕ → ℕ → MixingTopology → Float → Float
-summerOf bundle curves slot t sum =
+unfoldable pub summerTransferOf : List ℕ → List ℕ → ℕ → MixingTopology → Float → Float
+summerTransferOf bundle curves slot t sum =
     let inputs = summerInputsOf (t .«filter_input_count») in
-    sampleCurveOf curves slot (averageOf t sum) ⊖ restingOutputOf bundle inputs
+    sampleCurveOf curves slot (averageOf t sum) ⊖ summerRestingOutputOf bundle inputs
 
 -- what it reads: two entries of the curve, then four of the surface for the resting output
 unfoldable pub judgeSummerOf : List ℕ → List ℕ → ℕ → MixingTopology → Float → Answer
 judgeSummerOf bundle curves slot t sum =
     let inputs = summerInputsOf (t .«filter_input_count») in
-    firstOf (judgePlacesOf Curves curves (sampleCurvePlacesOf slot (averageOf t sum))) (judgePlacesOf Bundle bundle (restingPlacesOf inputs))
+    firstOf (judgePlacesOf Curves curves (sampleCurvePlacesOf slot (averageOf t sum))) (judgePlacesOf Bundle bundle (summerRestingPlacesOf inputs))
 
 -- ---- `advance_filter_core`
 
 -- no filter input, and energy and both capacitors equal to 0, of either sign
-abbrev pub idleOf : ℕ → IntegratorState → Bool
-idleOf count s = eqb count 0 && eq (s .«filter_source_energy») (f32 0) && eq (s .«band_state») (f32 0) && eq (s .«low_state») (f32 0)
+abbrev pub isIdleOf : ℕ → IntegratorState → Bool
+isIdleOf count s = eqb count 0 && eq (s .«filter_source_energy») (f32 0) && eq (s .«band_state») (f32 0) && eq (s .«low_state») (f32 0)
 
 -- the energy of one input, where there is one
-abbrev pub fedOf : ℕ → Float → Float → Float
-fedOf count reciprocal energy = cond (ltb 0 count) (energy ⊗ reciprocal) energy
+abbrev pub fedEnergyOf : ℕ → Float → Float → Float
+fedEnergyOf count reciprocal energy = cond (ltb 0 count) (energy ⊗ reciprocal) energy
 
 -- the tracked energy moves towards what is fed
-abbrev pub trackedOf : Float → Float → Float
-trackedOf tracked fed = tracked ⊕ K.FILTER-SOURCE-ENERGY-TRACKING ⊗ (fed ⊖ tracked)
+abbrev pub trackedEnergyOf : Float → Float → Float
+trackedEnergyOf tracked fed = tracked ⊕ K.FILTER-SOURCE-ENERGY-TRACKING ⊗ (fed ⊖ tracked)
 
 -- `interpolate`, between the two operating bins
 abbrev pub betweenBins : List Float → TablePosition → Float
-betweenBins values at = between (getD values (at .lower) nan) (getD values (at .upper) nan) (at .fraction)
+betweenBins values at = interpolateOf (getD values (at .lower) nan) (getD values (at .upper) nan) (at .fraction)
 
 -- source_gain_modulation * source_energy_drive * source_modulation_resonance_scale
 abbrev pub shiftOf : Float → Float → Float → Float
@@ -103,17 +103,17 @@ movedOf f s input energy =
 abbrev pub atRestOf : IntegratorState → Substeps
 atRestOf s = Settled (record { outputs = record { «high_pass» = f32 0; «band_pass» = f32 0; «low_pass» = f32 0 }; state = s })
 
-unfoldable pub advanceCoreOf : List ℕ → List ℕ → ℕ → MixingTopology → FilterControls → IntegratorState → Float → Float → Substeps
-advanceCoreOf bundle curves slot t f s sum energy =
-    cond (idleOf (t .«filter_input_count») s) (atRestOf s)
-    (movedOf f s (summerOf bundle curves slot t sum ⊗ K.FILTER-INPUT-GAIN)
-    (trackedOf (s .«filter_source_energy») (fedOf (t .«filter_input_count») (t .«filter_input_reciprocal») energy)))
+unfoldable pub advanceFilterCoreOf : List ℕ → List ℕ → ℕ → MixingTopology → FilterControls → IntegratorState → Float → Float → Substeps
+advanceFilterCoreOf bundle curves slot t f s sum energy =
+    cond (isIdleOf (t .«filter_input_count») s) (atRestOf s)
+    (movedOf f s (summerTransferOf bundle curves slot t sum ⊗ K.FILTER-INPUT-GAIN)
+    (trackedEnergyOf (s .«filter_source_energy») (fedEnergyOf (t .«filter_input_count») (t .«filter_input_reciprocal») energy)))
 
 -- ---- `select_filter_output`
 
 -- an output at the mixer: about the quiescent level, with its amplifier's polarity
 abbrev pub levelOf : Float → ℕ → Float
-levelOf value i = quiescentLevelOf ⊕ value ⊗ getD K.FILTER-MODE-POLARITY i nan
+levelOf value i = filterModeQuiescentLevelOf ⊕ value ⊗ getD K.FILTER-MODE-POLARITY i nan
 
 -- by the mode's lower three bits
 unfoldable pub modeSumOf : ℕ → Float → Float → Float → Float
@@ -134,9 +134,9 @@ mixedOf f mode o =
     (levelOf (o .«high_pass» ⊕ f .«high_pass_low_coupling» ⊗ o .«low_pass») 2)
 
 -- the gain acts about the outputs' level at rest
-unfoldable pub selectOf : ControlCache → ℕ → ℕ → FilterOutputs → Float
-selectOf c count mode o =
-    let resting = quiescentLevelOf ⊗ ofSmall count in
+unfoldable pub selectFilterOutputOf : ControlCache → ℕ → ℕ → FilterOutputs → Float
+selectFilterOutputOf c count mode o =
+    let resting = filterModeQuiescentLevelOf ⊗ ofSmall count in
     resting ⊕ (mixedOf (c .filter) mode o ⊖ resting) ⊗ c .«mode_output_gain» ⊗ c .filter .«resonance_output_gain»
 
 -- ---- the sample
@@ -146,7 +146,7 @@ unfoldable pub judgeSampleOf : List ℕ → List ℕ → ℕ → MixingTopology 
 judgeSampleOf bundle curves slot t s sum energy =
     firstOf (unlessOf (finite sum && finite energy) InputNotFinite)
     (firstOf (unlessOf (leb (t .«mixer_input_count») 7) MixerInputs)
-    (cond (idleOf (t .«filter_input_count») s) Done (judgeSummerOf bundle curves slot t sum)))
+    (cond (isIdleOf (t .«filter_input_count») s) Done (judgeSummerOf bundle curves slot t sum)))
 
 -- the four numbers that a sample gives are finite
 abbrev pub outputsFinite : Outputs → Bool
@@ -156,12 +156,12 @@ outputsFinite o = finite (o .high) && finite (o .band) && finite (o .low) && fin
 unfoldable pub takenOf : ControlCache → ℕ → ℕ → Substeps → Sampled
 takenOf c count mode NotFinite = Refused Domain
 takenOf c count mode (Settled a) =
-    let selected = selectOf c count mode (a .outputs) in
+    let selected = selectFilterOutputOf c count mode (a .outputs) in
     cond (finite selected)
     (Taken (record { high = a .outputs .«high_pass»; band = a .outputs .«band_pass»; low = a .outputs .«low_pass»; selected = selected }) (a .state))
     (Refused Domain)
 
-unfoldable pub sampleOf : List ℕ → List ℕ → ℕ → MixingTopology → ControlCache → ℕ → IntegratorState → Float → Float → Sampled
-sampleOf bundle curves slot t c mode s sum energy =
+unfoldable pub filterSampleOf : List ℕ → List ℕ → ℕ → MixingTopology → ControlCache → ℕ → IntegratorState → Float → Float → Sampled
+filterSampleOf bundle curves slot t c mode s sum energy =
     let judged = judgeSampleOf bundle curves slot t s sum energy in
-    cond (isDoneOf judged) (takenOf c (t .«filter_output_count») mode (advanceCoreOf bundle curves slot t (c .filter) s sum energy)) (Refused judged)
+    cond (isDoneOf judged) (takenOf c (t .«filter_output_count») mode (advanceFilterCoreOf bundle curves slot t (c .filter) s sum energy)) (Refused judged)

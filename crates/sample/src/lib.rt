@@ -67,7 +67,7 @@ pub fn summer_transfer(
     topology: MixingTopology,
     input_sum: f32,
 ) -> f32
-    ensures { λ r. ⌜ r ≡ S.summerOf (now (bundle .entry)) (now (curves .entry)) slot topology «input_sum» ⌝ }
+    ensures { λ r. ⌜ r ≡ S.summerTransferOf (now (bundle .entry)) (now (curves .entry)) slot topology «input_sum» ⌝ }
 {
     let inputs = summer_inputs(topology.filter_input_count);
     let average = average(topology, input_sum);
@@ -102,22 +102,22 @@ pub fn rest_of(bundle: &[u8], topology: MixingTopology) -> Read
 }
 
 // What the core is fed: nothing where it is idle, the summer's output above its rest, or a refusal.
-pub enum Fed {
+pub enum CoreInput {
     Idle,
     Level(f32),
     Refused(Answer),
 }
 
 // The summer's output above a rest that is handed in, each entry judged as it is read.
-fn summed(curves: &[u8], slot: u8, topology: MixingTopology, rest: Read, input_sum: f32) -> Fed
+fn summed(curves: &[u8], slot: u8, topology: MixingTopology, rest: Read, input_sum: f32) -> CoreInput
     ensures { λ r. ⌜ r ≡ K.summedOf (now (curves .entry)) slot topology rest «input_sum» ⌝ }
 {
     let curve = curves::read_curve(curves, slot, average(topology, input_sum));
     match curve {
-        Read::Refused(answer) => Fed::Refused(answer),
+        Read::Refused(answer) => CoreInput::Refused(answer),
         Read::Value(level) => match rest {
-            Read::Refused(answer) => Fed::Refused(answer),
-            Read::Value(resting) => Fed::Level(level - resting),
+            Read::Refused(answer) => CoreInput::Refused(answer),
+            Read::Value(resting) => CoreInput::Level(level - resting),
         },
     }
 }
@@ -125,14 +125,14 @@ fn summed(curves: &[u8], slot: u8, topology: MixingTopology, rest: Read, input_s
 // ---- advance_filter_core
 
 fn is_idle(count: usize, s: IntegratorState) -> bool
-    ensures { λ r. ⌜ r ≡ S.idleOf count s ⌝ }
+    ensures { λ r. ⌜ r ≡ S.isIdleOf count s ⌝ }
 {
     (count == 0) & (s.filter_source_energy == 0.0) & (s.band_state == 0.0) & (s.low_state == 0.0)
 }
 
 // The energy of one input.
 fn fed_energy(topology: MixingTopology, energy: f32) -> f32
-    ensures { λ r. ⌜ r ≡ S.fedOf (topology .«filter_input_count») (topology .«filter_input_reciprocal») energy ⌝ }
+    ensures { λ r. ⌜ r ≡ S.fedEnergyOf (topology .«filter_input_count») (topology .«filter_input_reciprocal») energy ⌝ }
 {
     if 0 < topology.filter_input_count {
         energy * topology.filter_input_reciprocal
@@ -142,7 +142,7 @@ fn fed_energy(topology: MixingTopology, energy: f32) -> f32
 }
 
 fn tracked_energy(tracked: f32, fed: f32) -> f32
-    ensures { λ r. ⌜ r ≡ S.trackedOf tracked fed ⌝ }
+    ensures { λ r. ⌜ r ≡ S.trackedEnergyOf tracked fed ⌝ }
 {
     tracked + constants::FILTER_SOURCE_ENERGY_TRACKING * (fed - tracked)
 }
@@ -259,7 +259,7 @@ fn select_filter_output(
     mode: u8,
     o: FilterOutputs,
 ) -> f32
-    ensures { λ r. ⌜ r ≡ S.selectOf (K.cacheOf [] [] [] core «mode_output_gain») count mode o ⌝ }
+    ensures { λ r. ⌜ r ≡ S.selectFilterOutputOf (K.cacheOf [] [] [] core «mode_output_gain») count mode o ⌝ }
 {
     let resting = response::filter_mode_quiescent_level() * floats::of_usize(count);
     resting + (mixed(core, mode, o) - resting) * mode_output_gain * core.resonance_output_gain
@@ -310,19 +310,19 @@ fn feed(
     s: IntegratorState,
     input_sum: f32,
     source_energy: f32,
-) -> Fed
-    ensures { λ r. ⌜ r ≡ K.feedOf (now (curves .entry)) slot topology rest s «input_sum» «source_energy» ⌝ }
+) -> CoreInput
+    ensures { λ r. ⌜ r ≡ K.coreInputOf (now (curves .entry)) slot topology rest s «input_sum» «source_energy» ⌝ }
 {
     if floats::is_finite(input_sum) & floats::is_finite(source_energy) {
         if topology.mixer_input_count <= 7 {
             if is_idle(topology.filter_input_count, s) {
-                return Fed::Idle;
+                return CoreInput::Idle;
             }
             return summed(curves, slot, topology, rest, input_sum);
         }
-        return Fed::Refused(Answer::MixerInputs);
+        return CoreInput::Refused(Answer::MixerInputs);
     }
-    Fed::Refused(Answer::InputNotFinite)
+    CoreInput::Refused(Answer::InputNotFinite)
 }
 
 // One sample of the filter on kept parts as they are handed in, the summer's rest among them. The operating bin is guessed from `earlier`, capacitors that are
@@ -348,9 +348,9 @@ pub fn sample_kept(
     let count = topology.filter_output_count;
     let fed = feed(curves, slot, topology, rest, s, input_sum, source_energy);
     match fed {
-        Fed::Idle => taken(core, mode_output_gain, count, mode, at_rest(s)),
-        Fed::Refused(answer) => Sampled::Refused { answer },
-        Fed::Level(level) => {
+        CoreInput::Idle => taken(core, mode_output_gain, count, mode, at_rest(s)),
+        CoreInput::Refused(answer) => Sampled::Refused { answer },
+        CoreInput::Level(level) => {
             let energy = tracked_energy(
                 s.filter_source_energy,
                 fed_energy(topology, source_energy),
@@ -385,7 +385,7 @@ pub fn sample(
     input_sum: f32,
     source_energy: f32,
 ) -> Sampled
-    ensures { λ r. ⌜ r ≡ S.sampleOf (now (bundle .entry)) (now (curves .entry)) slot topology controls mode state «input_sum» «source_energy» ⌝ }
+    ensures { λ r. ⌜ r ≡ S.filterSampleOf (now (bundle .entry)) (now (curves .entry)) slot topology controls mode state «input_sum» «source_energy» ⌝ }
 {
     let f = controls.filter;
     let gains = f.integrator_gain;

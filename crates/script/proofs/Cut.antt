@@ -12,9 +12,9 @@ use borrow.Author.Tests.{eqb-true, eq-eqb, leb-true, le-leb}
 use Rattle.wire.specs.Wire.{Bytes, byteAt, u32At, f32At, bytesOf}
 use Rattle.wire.proofs.Laws.{length-bytesOf, numberAt-bytesOf, numberAt-first, numberAt-second, bytesOf-numberAt}
 use Rattle.script.specs.declared.Event.{Event}
-use Rattle.script.specs.declared.Decoded.{Decoded}
-use Rattle.script.specs.declared.Decoded.the-variants.{Readable, Unreadable}
-use Rattle.script.specs.Script.{kindOf, eventOf, isReadable, slicesIn, countOf, slicesOf, allReadable, consOf, eventsIn, eventsOf, samplesOf, headerOk, wellFormed}
+use Rattle.script.specs.declared.DecodedEvent.{DecodedEvent}
+use Rattle.script.specs.declared.DecodedEvent.the-variants.{Readable, Unreadable}
+use Rattle.script.specs.Script.{kindOf, decodeEventOf, isReadable, slicesIn, eventCountOf, slicesOf, allReadable, consOf, eventsIn, eventsOf, samplesOf, headerOk, wellFormed}
 use Rattle.script.specs.Pieces.{joined, scriptOf, AllWellFormed}
 
 both : (a b : Bool) → (a && b) ≡ true → (a ≡ true) × (b ≡ true)
@@ -23,8 +23,8 @@ both false b h = absurd (true≢false (sym h))
 
 -- ---- readable slices
 
-readable-long : (b : List ℕ) → isReadable (eventOf b) ≡ true → length b ≡ 12
-unfolding eventOf
+readable-long : (b : List ℕ) → isReadable (decodeEventOf b) ≡ true → length b ≡ 12
+unfolding decodeEventOf
 readable-long b h = go (eqb (length b) 12) refl h
   where
     go : (t : Bool) → eqb (length b) 12 ≡ t
@@ -36,14 +36,14 @@ length-joined : (bs : List (List ℕ)) → allReadable bs ≡ true → length (j
 unfolding allReadable
 length-joined [] h = refl
 length-joined (b ∷ bs) h =
-    let r = both (isReadable (eventOf b)) (allReadable bs) h in
+    let r = both (isReadable (decodeEventOf b)) (allReadable bs) h in
     omega (arith, length-append b (joined bs), readable-long b (r .0), length-joined bs (r .1))
 
 slices-joined : (bs : List (List ℕ)) → allReadable bs ≡ true → slicesIn (length bs) (joined bs) ≡ bs
 unfolding allReadable slicesIn
 slices-joined [] h = refl
 slices-joined (b ∷ bs) h =
-    let r = both (isReadable (eventOf b)) (allReadable bs) h in
+    let r = both (isReadable (decodeEventOf b)) (allReadable bs) h in
     let l = readable-long b (r .0) in
     rw (take-at b (joined bs) 12 l, drop-at b (joined bs) 12 l, slices-joined bs (r .1))
 
@@ -53,7 +53,7 @@ module _ (bs : List (List ℕ)) (few : length bs ≤ 65536) where
   header-long : length (bytesOf 4 (length bs) ++ bytesOf 4 8) ≡ 8
   header-long = omega (arith, length-append (bytesOf 4 (length bs)) (bytesOf 4 8), length-bytesOf 4 (length bs), length-bytesOf 4 8)
 
-  count-is : countOf (scriptOf bs) ≡ length bs
+  count-is : eventCountOf (scriptOf bs) ≡ length bs
   unfolding scriptOf
   count-is =
       numberAt-first 4 (bytesOf 4 (length bs) ++ bytesOf 4 8) (joined bs) 0 (omega (arith, header-long))
@@ -88,7 +88,7 @@ module _ (bs : List (List ℕ)) (few : length bs ≤ 65536) where
 pub all-append : (a b : List (List ℕ)) → allReadable (a ++ b) ≡ (allReadable a && allReadable b)
 unfolding allReadable
 all-append [] b = refl
-all-append (x ∷ a) b = rw (all-append a b) (and-assoc (isReadable (eventOf x)) (allReadable a) (allReadable b))
+all-append (x ∷ a) b = rw (all-append a b) (and-assoc (isReadable (decodeEventOf x)) (allReadable a) (allReadable b))
   where
     and-assoc : (p q r : Bool) → (p && (q && r)) ≡ (p && q && r)
     and-assoc true q r = refl
@@ -97,9 +97,9 @@ all-append (x ∷ a) b = rw (all-append a b) (and-assoc (isReadable (eventOf x))
 pub events-append : (a b : List (List ℕ)) → eventsIn (a ++ b) ≡ eventsIn a ++ eventsIn b
 unfolding eventsIn
 events-append [] b = refl
-events-append (x ∷ a) b = rw (events-append a b) (cons-append (eventOf x) (eventsIn a) (eventsIn b))
+events-append (x ∷ a) b = rw (events-append a b) (cons-append (decodeEventOf x) (eventsIn a) (eventsIn b))
   where
-    cons-append : (d : Decoded) (es fs : List Event) → consOf d (es ++ fs) ≡ consOf d es ++ fs
+    cons-append : (d : DecodedEvent) (es fs : List Event) → consOf d (es ++ fs) ≡ consOf d es ++ fs
     cons-append (Readable e) es fs = refl
     cons-append Unreadable es fs = refl
 
@@ -132,43 +132,43 @@ pub length-events : (bs : List (List ℕ)) → allReadable bs ≡ true → lengt
 unfolding allReadable eventsIn
 length-events [] h = refl
 length-events (b ∷ bs) h =
-    let r = both (isReadable (eventOf b)) (allReadable bs) h in
-    one-more (eventOf b) (eventsIn bs) (r .0) ∙ ap suc (length-events bs (r .1))
+    let r = both (isReadable (decodeEventOf b)) (allReadable bs) h in
+    one-more (decodeEventOf b) (eventsIn bs) (r .0) ∙ ap suc (length-events bs (r .1))
   where
-    one-more : (d : Decoded) (es : List Event) → isReadable d ≡ true → length (consOf d es) ≡ suc (length es)
+    one-more : (d : DecodedEvent) (es : List Event) → isReadable d ≡ true → length (consOf d es) ≡ suc (length es)
     one-more (Readable e) es h = refl
     one-more Unreadable es h = absurd (true≢false (sym h))
 
 -- what a well-formed script has
 pub record Header (s : List ℕ) : Type 0 where
-  pub few : countOf s ≤ 65536
+  pub few : eventCountOf s ≤ 65536
   pub offset : u32At s 4 ≡ 8
-  pub long : length s ≡ 8 + 12 * countOf s
+  pub long : length s ≡ 8 + 12 * eventCountOf s
   pub readable : allReadable (slicesOf s) ≡ true
 
 pub header : (s : List ℕ) → wellFormed s ≡ true → Header s
 unfolding wellFormed headerOk
 header s h =
-    let a = leb (countOf s) 65536 in
+    let a = leb (eventCountOf s) 65536 in
     let b = eqb (u32At s 4) 8 in
-    let c = eqb (length s) (8 + 12 * countOf s) in
+    let c = eqb (length s) (8 + 12 * eventCountOf s) in
     let r = both (a && b && c) (allReadable (slicesOf s)) h in
     let q = both (a && b) c (r .0) in
     let p = both a b (q .0) in
     record {
-      few = leb-true (countOf s) 65536 (p .0);
+      few = leb-true (eventCountOf s) 65536 (p .0);
       offset = eqb-true (u32At s 4) 8 (p .1);
-      long = eqb-true (length s) (8 + 12 * countOf s) (q .1);
+      long = eqb-true (length s) (8 + 12 * eventCountOf s) (q .1);
       readable = r .1;
     }
 
 -- At most 65,536 slices.
 pub slices-few : (s : List ℕ) → wellFormed s ≡ true → length (slicesOf s) ≤ 65536
-slices-few s h = omega (arith, length-slices (countOf s) (drop 8 s), header s h .few)
+slices-few s h = omega (arith, length-slices (eventCountOf s) (drop 8 s), header s h .few)
 
 -- As many events as its count says.
-pub events-count : (s : List ℕ) → wellFormed s ≡ true → length (eventsOf s) ≡ countOf s
-events-count s h = length-events (slicesOf s) (header s h .readable) ∙ length-slices (countOf s) (drop 8 s)
+pub events-count : (s : List ℕ) → wellFormed s ≡ true → length (eventsOf s) ≡ eventCountOf s
+events-count s h = length-events (slicesOf s) (header s h .readable) ∙ length-slices (eventCountOf s) (drop 8 s)
 
 pub record Cut (s : List ℕ) (pieces : List (List (List ℕ))) : Type 0 where
   pub each : AllWellFormed (map scriptOf pieces)
@@ -178,7 +178,7 @@ pub record Cut (s : List ℕ) (pieces : List (List (List ℕ))) : Type 0 where
 pub cut : (s : List ℕ) → wellFormed s ≡ true → (pieces : List (List (List ℕ))) → joined pieces ≡ slicesOf s → Cut s pieces
 cut s h pieces e =
     let k = header s h in
-    let l : length (joined pieces) ≤ 65536 = omega (arith, ap length e, length-slices (countOf s) (drop 8 s), k .few) in
+    let l : length (joined pieces) ≤ 65536 = omega (arith, ap length e, length-slices (eventCountOf s) (drop 8 s), k .few) in
     let r : allReadable (joined pieces) ≡ true = ap allReadable e ∙ k .readable in
     record { each = pieces-well-formed pieces l r; whole = pieces-events pieces l r ∙ ap eventsIn e }
 
@@ -198,5 +198,5 @@ one-piece s b h =
     let k = header s h in
     let l = k .long in
     let offset : bytesOf 4 8 ≡ take 4 (drop 4 s) = ap (bytesOf 4) (sym (k .offset)) ∙ bytesOf-numberAt 4 s 4 (omega arith) b in
-    rw (length-slices (countOf s) (drop 8 s), joined-slices (countOf s) (drop 8 s), take-all (12 * countOf s) (drop 8 s) (omega (arith, length-drop 8 s)), bytesOf-numberAt 4 s 0 (omega arith) b, offset)
+    rw (length-slices (eventCountOf s) (drop 8 s), joined-slices (eventCountOf s) (drop 8 s), take-all (12 * eventCountOf s) (drop 8 s) (omega (arith, length-drop 8 s)), bytesOf-numberAt 4 s 0 (omega arith) b, offset)
     (rw (← take-add 4 4 s) (take-append-drop 8 s))

@@ -13,34 +13,34 @@ use Rattle.wire.specs.Wire.{byteAt, u32At, f32At}
 use Rattle.answers.specs.declared.Answer.the-variants.{Script}
 use Rattle.script.specs.declared.Event.{Event}
 use Rattle.script.specs.declared.Event.the-variants.{CutoffLow, CutoffHigh, Routing, Mode, Sample, Reset}
-use Rattle.script.specs.declared.Decoded.the-variants.{Readable, Unreadable}
+use Rattle.script.specs.declared.DecodedEvent.the-variants.{Readable, Unreadable}
 use Rattle.script.specs.declared.Checked.{Checked}
 use Rattle.script.specs.declared.Checked.the-variants.{WellFormed, Refused}
-use Rattle.script.specs.Script.{kindOf, eventOf, eventAt, slicesIn, allReadable, eventsIn, sampleOf, samplesOf, headerOk, wellFormed, slicesOf, countOf, eventsOf, tallyOf, checkOf}
+use Rattle.script.specs.Script.{kindOf, decodeEventOf, eventAt, slicesIn, allReadable, eventsIn, sampleCountOf, samplesOf, headerOk, wellFormed, slicesOf, eventCountOf, eventsOf, tallyOf, checkScriptOf}
 
 -- ---- an event
 
 module _ (b : List ℕ) {x y : ℕ} (px : x ≡ byteAt b 2) (py : y ≡ byteAt b 3) where
-  pub event-told : {v k : ℕ} → v ≡ byteAt b 1 → k ≡ byteAt b 0 → (eqb (length b) 12 && eqb x 0 && eqb y 0) ≡ true → kindOf k v (f32At b 4) (f32At b 8) ≡ eventOf b
-  unfolding eventOf
+  pub event-told : {v k : ℕ} → v ≡ byteAt b 1 → k ≡ byteAt b 0 → (eqb (length b) 12 && eqb x 0 && eqb y 0) ≡ true → kindOf k v (f32At b 4) (f32At b 8) ≡ decodeEventOf b
+  unfolding decodeEventOf
   event-told pv pk h = rw (pv, pk, ← px, ← py, h)
 
-  pub event-not : (eqb (length b) 12 && eqb x 0 && eqb y 0) ≡ false → Unreadable ≡ eventOf b
-  unfolding eventOf
+  pub event-not : (eqb (length b) 12 && eqb x 0 && eqb y 0) ≡ false → Unreadable ≡ decodeEventOf b
+  unfolding decodeEventOf
   event-not h = rw (← px, ← py, h)
 
-event-short : (b : List ℕ) → length b < 12 → Unreadable ≡ eventOf b
-unfolding eventOf
+event-short : (b : List ℕ) → length b < 12 → Unreadable ≡ decodeEventOf b
+unfolding decodeEventOf
 event-short b h = rw (ne-eqb (length b) 12 (λ e. omega arith))
 
 -- the 12 bytes between a place and the next
-pub event-part : (s : List ℕ) (place : ℕ) → eventOf (take (place + 12 - place) (drop place s)) ≡ eventAt s place
+pub event-part : (s : List ℕ) (place : ℕ) → decodeEventOf (take (place + 12 - place) (drop place s)) ≡ eventAt s place
 event-part s place = let e : place + 12 - place ≡ 12 = omega arith in rw e
 
 pub event-past : (s : List ℕ) (place : ℕ) → length s < place + 12 → Unreadable ≡ eventAt s place
 event-past s place h = event-short (take 12 (drop place s)) (omega (arith, length-take 12 (drop place s), length-drop place s))
 
-pub sample-le : (e : Event) → sampleOf e ≤ 1
+pub sample-le : (e : Event) → sampleCountOf e ≤ 1
 sample-le (CutoffLow v) = omega arith
 sample-le (CutoffHigh v) = omega arith
 sample-le (Routing v) = omega arith
@@ -100,7 +100,7 @@ unfolding tallyOf tallyFrom
 tally-start count bs = rw zero-add
 
 module _ (s : List ℕ) (count k i : ℕ) where
-  pub tally-more : i < count → (e : Event) → eventAt s (8 + 12 * i) ≡ Readable e → tallyFrom count k (slicesFrom s count i) ≡ tallyFrom count (k + sampleOf e) (slicesFrom s count (i + 1))
+  pub tally-more : i < count → (e : Event) → eventAt s (8 + 12 * i) ≡ Readable e → tallyFrom count k (slicesFrom s count i) ≡ tallyFrom count (k + sampleCountOf e) (slicesFrom s count (i + 1))
   unfolding tallyFrom samplesOf
   tally-more h e r = rw (all-next s count i h e r, events-next s count i h e r, add-assoc)
 
@@ -122,11 +122,11 @@ count-few c b d h = leb-true c 65536 (first (leb c 65536) b d h)
     first false b d h = h
 
 -- by the header's test, and then the tally
-pub check-told : (s : List ℕ) (t : Bool) {c o : ℕ} → c ≡ countOf s → o ≡ u32At s 4 → (leb c 65536 && eqb o 8 && eqb (length s) (8 + 12 * c)) ≡ t
-    → cond t (tallyOf c (slicesIn c (drop 8 s))) (Refused Script) ≡ checkOf s
-unfolding checkOf wellFormed headerOk tallyOf
-check-told s t pc po h = rw (← h, pc, po) (go (leb (countOf s) 65536 && eqb (u32At s 4) 8 && eqb (length s) (8 + 12 * countOf s)) (allReadable (slicesOf s)))
+pub check-told : (s : List ℕ) (t : Bool) {c o : ℕ} → c ≡ eventCountOf s → o ≡ u32At s 4 → (leb c 65536 && eqb o 8 && eqb (length s) (8 + 12 * c)) ≡ t
+    → cond t (tallyOf c (slicesIn c (drop 8 s))) (Refused Script) ≡ checkScriptOf s
+unfolding checkScriptOf wellFormed headerOk tallyOf
+check-told s t pc po h = rw (← h, pc, po) (go (leb (eventCountOf s) 65536 && eqb (u32At s 4) 8 && eqb (length s) (8 + 12 * eventCountOf s)) (allReadable (slicesOf s)))
   where
-    go : (a b : Bool) → cond a (cond b (WellFormed (countOf s) (samplesOf (eventsOf s))) (Refused Script)) (Refused Script) ≡ cond (a && b) (WellFormed (countOf s) (samplesOf (eventsOf s))) (Refused Script)
+    go : (a b : Bool) → cond a (cond b (WellFormed (eventCountOf s) (samplesOf (eventsOf s))) (Refused Script)) (Refused Script) ≡ cond (a && b) (WellFormed (eventCountOf s) (samplesOf (eventsOf s))) (Refused Script)
     go true b = refl
     go false b = refl

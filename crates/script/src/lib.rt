@@ -2,7 +2,7 @@
 ghost use mathlib.Core.Path.{_≡_};
 ghost use Prim.Native.Nat.{_≤_};
 ghost use lib.ListN.{drop};
-ghost use Rattle.script.specs.Script.{sampleOf, eventOf, eventAt, slicesIn, tallyOf, checkOf};
+ghost use Rattle.script.specs.Script.{sampleCountOf, decodeEventOf, eventAt, slicesIn, tallyOf, checkScriptOf};
 use answers::Answer;
 
 // What a run feeds to the filter: a register write with its value, a sample or a reset.
@@ -16,7 +16,7 @@ pub enum Event {
 }
 
 // What the bytes of an event stand for.
-pub enum Decoded {
+pub enum DecodedEvent {
     Readable(Event),
     Unreadable,
 }
@@ -28,30 +28,30 @@ pub enum Checked {
 }
 
 // The event of twelve bytes.
-fn decode(bytes: &[u8]) -> Decoded
-    ensures { λ r. ⌜ r ≡ eventOf (now (bytes .entry)) ⌝ }
+fn decode(bytes: &[u8]) -> DecodedEvent
+    ensures { λ r. ⌜ r ≡ decodeEventOf (now (bytes .entry)) ⌝ }
 {
     if (bytes.len() == 12) & (wire::byte_at(bytes, 2) == 0) & (wire::byte_at(bytes, 3) == 0) {
         let value = wire::byte_at(bytes, 1);
         let kind = wire::byte_at(bytes, 0);
         return match kind {
-            0 => Decoded::Readable(Event::CutoffLow(value)),
-            1 => Decoded::Readable(Event::CutoffHigh(value)),
-            2 => Decoded::Readable(Event::Routing(value)),
-            3 => Decoded::Readable(Event::Mode(value)),
-            4 => Decoded::Readable(Event::Sample {
+            0 => DecodedEvent::Readable(Event::CutoffLow(value)),
+            1 => DecodedEvent::Readable(Event::CutoffHigh(value)),
+            2 => DecodedEvent::Readable(Event::Routing(value)),
+            3 => DecodedEvent::Readable(Event::Mode(value)),
+            4 => DecodedEvent::Readable(Event::Sample {
                 input_sum: wire::f32_at(bytes, 4),
                 source_energy: wire::f32_at(bytes, 8),
             }),
-            5 => Decoded::Readable(Event::Reset),
-            _ => Decoded::Unreadable,
+            5 => DecodedEvent::Readable(Event::Reset),
+            _ => DecodedEvent::Unreadable,
         };
     }
-    Decoded::Unreadable
+    DecodedEvent::Unreadable
 }
 
 // The event at a place of a script.
-pub fn event_at(script: &[u8], place: usize) -> Decoded
+pub fn event_at(script: &[u8], place: usize) -> DecodedEvent
     ensures { λ r. ⌜ r ≡ eventAt (now (script .entry)) place ⌝ }
 {
     if 12 <= script.len() {
@@ -60,12 +60,12 @@ pub fn event_at(script: &[u8], place: usize) -> Decoded
             return decode(&script[place..end]);
         }
     }
-    Decoded::Unreadable
+    DecodedEvent::Unreadable
 }
 
 // 1 for a sample, 0 for any other event.
 fn sample(event: Event) -> usize
-    ensures { λ r. ⌜ r ≡ sampleOf event ⌝ }
+    ensures { λ r. ⌜ r ≡ sampleCountOf event ⌝ }
 {
     match event {
         Event::CutoffLow(_) => 0,
@@ -88,7 +88,7 @@ fn tally(script: &[u8], count: usize) -> Checked
     let mut samples = 0;
     let mut i = 0;
     while i < count {
-        let Decoded::Readable(event) = event_at(script, 8 + 12 * i) else {
+        let DecodedEvent::Readable(event) = event_at(script, 8 + 12 * i) else {
             return Checked::Refused(Answer::Script);
         };
         samples += sample(event);
@@ -102,7 +102,7 @@ fn tally(script: &[u8], count: usize) -> Checked
 
 // The check of a script. A script that is not well-formed is refused whole.
 pub fn check(script: &[u8]) -> Checked
-    ensures { λ r. ⌜ r ≡ checkOf (now (script .entry)) ⌝ }
+    ensures { λ r. ⌜ r ≡ checkScriptOf (now (script .entry)) ⌝ }
 {
     let count = wire::u32_at(script, 0) as usize;
     if (count <= 65536) & (wire::u32_at(script, 4) == 8) & (script.len() == 8 + 12 * count) {

@@ -12,7 +12,7 @@ use Rattle.answers.specs.declared.Answer.the-variants.{CurvesLength, Domain, Ar
 use Rattle.answers.specs.Answers.{numberOf, bufferOf, placeOf, isDoneOf, firstOf, unlessOf}
 use Rattle.floats.specs.Arithmetic.{f32}
 use Rattle.bundle.specs.Opening.{checkOf, judgePlacesOf}
-use Rattle.curves.specs.declared.LoadPosition.{LoadPosition}
+use Rattle.curves.specs.declared.AnalogueLoadPosition.{AnalogueLoadPosition}
 use Rattle.curves.specs.Sampling.{loadPositionOf, samplePlacesOf, sampleOf, sampleCurvePlacesOf, sampleCurveOf}
 use Rattle.run.specs.Run.{Run}
 use Rattle.sid_filter.specs.declared.RunAnswer.{RunAnswer}
@@ -27,17 +27,17 @@ abbrev pub ranAnswerOf : Run → RunAnswer
 ranAnswerOf r = runAnswerOf (r .answer) (r .events) (r .samples)
 
 -- A value where nothing is refused, else 0.
-abbrev pub valueOf : Answer → Float → Float
-valueOf answer value = cond (isDoneOf answer) value (f32 0)
+abbrev pub valueOr : Answer → Float → Float
+valueOr answer value = cond (isDoneOf answer) value (f32 0)
 
 -- `load_position`: 10
-abbrev pub positionOf : Answer → LoadPosition → LoadPosition
-positionOf answer position = cond (isDoneOf answer) position (record { «lower_base» = 0; «upper_base» = 0; fraction = f32 0 })
+abbrev pub loadOr : Answer → AnalogueLoadPosition → AnalogueLoadPosition
+loadOr answer position = cond (isDoneOf answer) position (record { «lower_base» = 0; «upper_base» = 0; fraction = f32 0 })
 
-unfoldable pub positionedOf : Float → Positioned
-positionedOf conductance =
+unfoldable pub loadPositionCallOf : Float → Positioned
+loadPositionCallOf conductance =
     let answer = unlessOf (finite conductance) Argument in
-    record { answer = answer; position = positionOf answer (loadPositionOf conductance) }
+    record { answer = answer; position = loadOr answer (loadPositionOf conductance) }
 
 -- `sample`: 1, 2, 10, 3, 6
 unfoldable pub sampleAnswerOf : List ℕ → Float → Float → Answer
@@ -47,10 +47,10 @@ sampleAnswerOf bundle conductance input =
     (firstOf (judgePlacesOf Bundle bundle (samplePlacesOf conductance input))
     (unlessOf (finite (sampleOf bundle conductance input)) Domain)))
 
-unfoldable pub sampledOf : List ℕ → Float → Float → Sampled
-sampledOf bundle conductance input =
+unfoldable pub sampleCallOf : List ℕ → Float → Float → Sampled
+sampleCallOf bundle conductance input =
     let answer = sampleAnswerOf bundle conductance input in
-    record { answer = answer; value = valueOf answer (sampleOf bundle conductance input) }
+    record { answer = answer; value = valueOr answer (sampleOf bundle conductance input) }
 
 -- `sample_curve`: 4, 10, 3, 6. A curve is a number of 0 to 30.
 unfoldable pub sampleCurveAnswerOf : List ℕ → ℕ → Float → Answer
@@ -60,7 +60,7 @@ sampleCurveAnswerOf curves curve input =
     (firstOf (judgePlacesOf Curves curves (sampleCurvePlacesOf curve input))
     (unlessOf (finite (sampleCurveOf curves curve input)) Domain)))
 
-unfoldable pub curveSampledOf : List ℕ → ℕ → Float → Sampled
-curveSampledOf curves curve input =
+unfoldable pub sampleCurveCallOf : List ℕ → ℕ → Float → Sampled
+sampleCurveCallOf curves curve input =
     let answer = sampleCurveAnswerOf curves curve input in
-    record { answer = answer; value = valueOf answer (sampleCurveOf curves curve input) }
+    record { answer = answer; value = valueOr answer (sampleCurveOf curves curve input) }

@@ -5,9 +5,9 @@ ghost use Rattle.bundle.specs.Opening.{openOf};
 ghost use Rattle.curves.specs.Building.{buildAnswerOf, builtOf};
 ghost use Rattle.ladder.specs.Calls.{solveTridiagonalOf, ladderWeightsOf, ladderValueOf, buildCutoffControlPositionsOf};
 ghost use Rattle.run.specs.Run.{runOf};
-ghost use Rattle.sid_filter.specs.Calls.{runAnswerOf, ranAnswerOf, valueOf, positionOf, positionedOf, sampledOf, curveSampledOf};
+ghost use Rattle.sid_filter.specs.Calls.{runAnswerOf, ranAnswerOf, valueOr, loadOr, loadPositionCallOf, sampleCallOf, sampleCurveCallOf};
 use answers::Answer;
-use curves::LoadPosition;
+use curves::AnalogueLoadPosition;
 use ladder::Level;
 use ladder::Nodes;
 
@@ -77,7 +77,7 @@ pub extern "C" fn sid_filter_run(
 // Where a conductance stands among the surface's loads; zeros where it is refused.
 pub struct Positioned {
     pub answer: Answer,
-    pub position: LoadPosition,
+    pub position: AnalogueLoadPosition,
 }
 
 // A number, 0 where the call is refused.
@@ -86,13 +86,13 @@ pub struct Sampled {
     pub value: f32,
 }
 
-fn position_of(answer: Answer, position: LoadPosition) -> LoadPosition
-    ensures { λ r. ⌜ r ≡ positionOf answer position ⌝ }
+fn position_of(answer: Answer, position: AnalogueLoadPosition) -> AnalogueLoadPosition
+    ensures { λ r. ⌜ r ≡ loadOr answer position ⌝ }
 {
     if answers::is_done(answer) {
         position
     } else {
-        LoadPosition {
+        AnalogueLoadPosition {
             lower_base: 0,
             upper_base: 0,
             fraction: 0.0,
@@ -101,14 +101,14 @@ fn position_of(answer: Answer, position: LoadPosition) -> LoadPosition
 }
 
 fn value_of(answer: Answer, value: f32) -> f32
-    ensures { λ r. ⌜ r ≡ valueOf answer value ⌝ }
+    ensures { λ r. ⌜ r ≡ valueOr answer value ⌝ }
 {
     if answers::is_done(answer) { value } else { 0.0 }
 }
 
 // The rows of the two loads that a conductance lies between. Refuses 10.
 pub fn load_position(conductance: f32) -> Positioned
-    ensures { λ r. ⌜ r ≡ positionedOf conductance ⌝ }
+    ensures { λ r. ⌜ r ≡ loadPositionCallOf conductance ⌝ }
 {
     let answer = answers::unless(floats::is_finite(conductance), Answer::Argument);
     Positioned {
@@ -119,7 +119,7 @@ pub fn load_position(conductance: f32) -> Positioned
 
 // The surface at a conductance and an input. Refuses 1, 2, 10, 3, 6.
 pub fn sample(bundle: &[u8], conductance: f32, input: f32) -> Sampled
-    ensures { λ r. ⌜ r ≡ sampledOf (now (bundle .entry)) conductance input ⌝ }
+    ensures { λ r. ⌜ r ≡ sampleCallOf (now (bundle .entry)) conductance input ⌝ }
 {
     let value = curves::sample(bundle, conductance, input);
     let finite = floats::is_finite(conductance) & floats::is_finite(input);
@@ -135,7 +135,7 @@ pub fn sample(bundle: &[u8], conductance: f32, input: f32) -> Sampled
 
 // A curve, 0 to 30, at an input. Refuses 4, 10, 3, 6.
 pub fn sample_curve(curves: &[u8], curve: u8, input: f32) -> Sampled
-    ensures { λ r. ⌜ r ≡ curveSampledOf (now (curves .entry)) curve input ⌝ }
+    ensures { λ r. ⌜ r ≡ sampleCurveCallOf (now (curves .entry)) curve input ⌝ }
 {
     let value = curves::sample_curve(curves, curve, input);
     let known = (curve <= 30) & floats::is_finite(input);

@@ -8,7 +8,7 @@ use lib.Ieee.{Float}
 use Rattle.answers.specs.declared.Answer.{Answer}
 use Rattle.answers.specs.declared.Buffer.the-variants.{Curves}
 use Rattle.floats.specs.Arithmetic.{_⊗_}
-use Rattle.response.specs.Levels.{quiescentLevelOf}
+use Rattle.response.specs.Levels.{filterModeQuiescentLevelOf}
 use Rattle.mixing.specs.declared.MixingTopology.{MixingTopology}
 use Rattle.bundle.specs.Opening.{judgePlacesOf}
 use Rattle.curves.specs.Sampling.{sampleCurveOf, sampleCurvePlacesOf}
@@ -21,10 +21,10 @@ mixerSlotOf count = 7 + min count 7
 
 -- the quiescent level where there is no input, else input_sum * mixer_input_reciprocal
 abbrev pub mixerAverageOf : MixingTopology → Float → Float
-mixerAverageOf t sum = cond (eqb (t .«mixer_input_count») 0) quiescentLevelOf (sum ⊗ t .«mixer_input_reciprocal»)
+mixerAverageOf t sum = cond (eqb (t .«mixer_input_count») 0) filterModeQuiescentLevelOf (sum ⊗ t .«mixer_input_reciprocal»)
 
-unfoldable pub mixerOf : List ℕ → ℕ → MixingTopology → Float → Float
-mixerOf curves slot t sum = sampleCurveOf curves slot (mixerAverageOf t sum)
+unfoldable pub mixerTransferOf : List ℕ → ℕ → MixingTopology → Float → Float
+mixerTransferOf curves slot t sum = sampleCurveOf curves slot (mixerAverageOf t sum)
 
 unfoldable pub judgeMixerOf : List ℕ → ℕ → MixingTopology → Float → Answer
 judgeMixerOf curves slot t sum = judgePlacesOf Curves curves (sampleCurvePlacesOf slot (mixerAverageOf t sum))
@@ -35,8 +35,8 @@ judgeMixerOf curves slot t sum = judgePlacesOf Curves curves (sampleCurvePlacesO
 abbrev pub volumeSlotOf : ℕ → ℕ
 volumeSlotOf volume = 15 + min volume 15
 
-unfoldable pub volumeOf : List ℕ → ℕ → Float → Float
-volumeOf curves slot value = sampleCurveOf curves slot value
+unfoldable pub volumeTransferOf : List ℕ → ℕ → Float → Float
+volumeTransferOf curves slot value = sampleCurveOf curves slot value
 
 unfoldable pub judgeVolumeOf : List ℕ → ℕ → Float → Answer
 judgeVolumeOf curves slot value = judgePlacesOf Curves curves (sampleCurvePlacesOf slot value)

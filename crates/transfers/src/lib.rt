@@ -26,7 +26,7 @@ fn mixer_average(topology: MixingTopology, sum: f32) -> f32
 
 // The mixer's output for the sum of its inputs.
 pub fn mixer_transfer(curves: &[u8], slot: u8, topology: MixingTopology, input_sum: f32) -> f32
-    ensures { λ r. ⌜ r ≡ T.mixerOf (now (curves .entry)) slot topology «input_sum» ⌝ }
+    ensures { λ r. ⌜ r ≡ T.mixerTransferOf (now (curves .entry)) slot topology «input_sum» ⌝ }
 {
     curves::sample_curve(curves, slot, mixer_average(topology, input_sum))
 }
@@ -49,7 +49,7 @@ pub fn volume_slot(volume: u8) -> u8
 
 // The volume DAC's output for the mixer's.
 pub fn volume_transfer(curves: &[u8], slot: u8, value: f32) -> f32
-    ensures { λ r. ⌜ r ≡ T.volumeOf (now (curves .entry)) slot value ⌝ }
+    ensures { λ r. ⌜ r ≡ T.volumeTransferOf (now (curves .entry)) slot value ⌝ }
 {
     curves::sample_curve(curves, slot, value)
 }

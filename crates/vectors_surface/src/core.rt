@@ -1,5 +1,5 @@
 // Records of the filter's core: what is kept of a state, and a sample. Each starts with a state's block.
-use control::Decoded;
+use control::DecodedState;
 use control::State;
 use controls::Refreshed;
 use mixing::MixingTopology;
@@ -8,18 +8,18 @@ use replay::has_floats;
 use replay::has_size;
 use sample::Sampled;
 
-fn state_at(r: &[u8]) -> Decoded {
+fn state_at(r: &[u8]) -> DecodedState {
     if 24 <= r.len() {
         return State::decode(&r[0..24]);
     }
-    Decoded::Invalid
+    DecodedState::Invalid
 }
 
 pub(crate) fn controls(r: &[u8], bundle: &[u8]) -> bool {
     let decoded = state_at(r);
     match decoded {
-        Decoded::Valid(state) => has_controls(r, controls::refresh(bundle, state)),
-        Decoded::Invalid => false,
+        DecodedState::Valid(state) => has_controls(r, controls::refresh(bundle, state)),
+        DecodedState::Invalid => false,
     }
 }
 
@@ -64,9 +64,9 @@ fn has_controls(r: &[u8], refreshed: Refreshed) -> bool {
 pub(crate) fn sample(r: &[u8], bundle: &[u8], curves: &[u8]) -> bool {
     let decoded = state_at(r);
     match decoded {
-        Decoded::Valid(state) => keeps_registers(r)
+        DecodedState::Valid(state) => keeps_registers(r)
             & has_sampled(r, sampled(r, bundle, curves, state)),
-        Decoded::Invalid => false,
+        DecodedState::Invalid => false,
     }
 }
 

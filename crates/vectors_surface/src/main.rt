@@ -7,7 +7,7 @@ mod surface;
 // What a record asks for. Each kind has a file, and a function that says whether one of its records agrees.
 enum Kind {
     Words,
-    LoadPosition,
+    AnalogueLoadPosition,
     Sample,
     SampleCurve,
     Curves,
@@ -18,7 +18,7 @@ enum Kind {
 fn agrees(kind: Kind, r: &[u8], bundle: &[u8], curves: &[u8]) -> bool {
     match kind {
         Kind::Words => surface::word(r, bundle),
-        Kind::LoadPosition => surface::load_position(r),
+        Kind::AnalogueLoadPosition => surface::load_position(r),
         Kind::Sample => surface::sample(r, bundle),
         Kind::SampleCurve => surface::sample_curve(r, curves),
         Kind::Curves => surface::curve_entry(r, curves),
@@ -51,7 +51,7 @@ fn replay_all(bundle: &[u8]) {
 // Each kind with its file and the number of words in its records.
 fn replay_files(bundle: &[u8], curves: &[u8]) {
     replay_file(Kind::Words, b"words.bin", 3, bundle, curves);
-    replay_file(Kind::LoadPosition, b"load_position.bin", 4, bundle, curves);
+    replay_file(Kind::AnalogueLoadPosition, b"load_position.bin", 4, bundle, curves);
     replay_file(Kind::Sample, b"sample.bin", 3, bundle, curves);
     replay_file(Kind::SampleCurve, b"sample_curve.bin", 3, bundle, curves);
     replay_file(Kind::Curves, b"curves.bin", 2, bundle, curves);

@@ -9,8 +9,8 @@ use native.Mathlib.Nat.{le-antisymm, eq-or-lt-of-le}
 use lib.Dec.{leb}
 use lib.ListN.{length}
 use borrow.Author.Tests.{leb-true, leb-false}
-use Rattle.wire.specs.Wire.{usable, usableAt}
-use Rattle.wire.specs.First.{first, usableEntry, every, blockUsable, firstUnusable}
+use Rattle.wire.specs.Wire.{usableOf, usableAt}
+use Rattle.wire.specs.First.{first, usableEntry, every, blockUsableOf, firstUnusableOf}
 use Rattle.wire.proofs.Laws.{le-or-lt, both, numberAt-out}
 
 -- it lies in the run or at its end
@@ -65,17 +65,17 @@ first-is ok (suc n) i r g l b f =
 
 -- An entry that does not lie whole in the bytes is usable.
 pub usable-past : (s : List ℕ) (from i : ℕ) → length s < from + 4 * i + 4 → usableEntry s from i ≡ true
-unfolding usableEntry usable
+unfolding usableEntry usableOf
 usable-past s from i h = rw (numberAt-out 4 s (from + 4 * i) h)
 
 -- Of m entries, those past the first n do not lie whole in s.
 module _ (s : List ℕ) (from n m : ℕ) (h : length s < from + 4 * n + 4) (l : n ≤ m) where
-  pub found-inside : firstUnusable s from n < n → firstUnusable s from m ≡ firstUnusable s from n
+  pub found-inside : firstUnusableOf s from n < n → firstUnusableOf s from m ≡ firstUnusableOf s from n
   found-inside f =
       let ok = usableEntry s from in
       first-is ok m 0 (first ok n 0) (omega arith) (omega arith) (first-before ok n 0) (λ _. first-fails ok n 0 (omega arith))
 
-  pub none-inside : n ≤ firstUnusable s from n → firstUnusable s from m ≡ m
+  pub none-inside : n ≤ firstUnusableOf s from n → firstUnusableOf s from m ≡ m
   none-inside f =
       let ok = usableEntry s from in
       first-is ok m 0 m (omega arith) (omega arith)
@@ -84,15 +84,15 @@ module _ (s : List ℕ) (from n m : ℕ) (h : length s < from + 4 * n + 4) (l : 
 
 -- What the entries are where none is found, and where one is.
 module _ (s : List ℕ) (from n : ℕ) where
-  pub none-unusable : n ≤ firstUnusable s from n → (k : ℕ) → k < n → usableAt s (from + 4 * k) ≡ true
+  pub none-unusable : n ≤ firstUnusableOf s from n → (k : ℕ) → k < n → usableAt s (from + 4 * k) ≡ true
   unfolding usableEntry
   none-unusable h k l = first-before (usableEntry s from) n 0 k (omega arith) (omega arith)
 
-  pub one-unusable : firstUnusable s from n < n → usableAt s (from + 4 * firstUnusable s from n) ≡ false
+  pub one-unusable : firstUnusableOf s from n < n → usableAt s (from + 4 * firstUnusableOf s from n) ≡ false
   unfolding usableEntry
   one-unusable h = first-fails (usableEntry s from) n 0 (omega arith)
 
-  pub all-usable : ((k : ℕ) → k < n → usableAt s (from + 4 * k) ≡ true) → firstUnusable s from n ≡ n
+  pub all-usable : ((k : ℕ) → k < n → usableAt s (from + 4 * k) ≡ true) → firstUnusableOf s from n ≡ n
   unfolding usableEntry
   all-usable h = first-is (usableEntry s from) n 0 n (omega arith) (omega arith) (λ k _. h k) (λ l. absurd (omega arith))
 
@@ -106,13 +106,13 @@ every-true ok (suc n) e k l =
     ⊎-elim (λ (h : n ≤ k). let q : k ≡ n = omega arith in ap ok q ∙ w .1) (λ (h : k < n). every-true ok n (w .0) k h) (le-or-lt n k)
 
 -- a usable block at entry i: there are 64 left, and where the entries before i are usable so are those before i + 64
-module _ (s : List ℕ) (from i left : ℕ) (e : blockUsable s (from + 4 * i) left ≡ true) where
+module _ (s : List ℕ) (from i left : ℕ) (e : blockUsableOf s (from + 4 * i) left ≡ true) where
   pub block-fits : 64 ≤ left
-  unfolding blockUsable
+  unfolding blockUsableOf
   block-fits = leb-true 64 left (both (leb 64 left) (every (usableEntry s (from + 4 * i)) 64) e .0)
 
   pub block-more : ((k : ℕ) → k < i → usableEntry s from k ≡ true) → (k : ℕ) → k < i + 64 → usableEntry s from k ≡ true
-  unfolding blockUsable usableEntry
+  unfolding blockUsableOf usableEntry
   block-more b k l =
       ⊎-elim
       (λ (h : i ≤ k).

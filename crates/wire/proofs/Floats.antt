@@ -14,7 +14,7 @@ use lib.Ieee.Bits.{ofBits-toBits, toBits-ofBits, toBits-lt, nanBits-is, nanBits-
 use lib.Ieee.Compare.{differs-from-itself}
 use lib.Ieee.Scale.{finite}
 use borrow.Author.Tests.{lt-ltb, le-ltb, ltb-true, leb-true, eq-eqb, ne-eqb}
-use Rattle.wire.specs.Wire.{Bytes, u32At, f32At, usable, finiteBits, floatBytes, putAt, rows}
+use Rattle.wire.specs.Wire.{Bytes, u32At, f32At, usableOf, finiteBitsOf, floatBytes, putAt, rows}
 use Rattle.wire.proofs.Laws.{le-or-lt, length-bytesOf, numberAt-lt, numberAt-bytesOf, numberAt-put, numberAt-rows, bytesOf-numberAt}
 
 no : {t : Bool} → t ≡ false → T (not t)
@@ -34,12 +34,12 @@ nan-above b h = is-nan (ofBits binary32 b) (sym (nanBits-is binary32 b) ∙ nanB
     is-nan (inf s) e = absurd (subst (λ (t : Bool). T (not t)) e tt)
     is-nan (fin s m d) e = absurd (subst (λ (t : Bool). T (not t)) e tt)
 
-pub usable-no-nan : (b : ℕ) → usable b ≡ true → T (not (nanBits binary32 b))
-unfolding usable
+pub usable-no-nan : (b : ℕ) → usableOf b ≡ true → T (not (nanBits binary32 b))
+unfolding usableOf
 usable-no-nan b e = no-nan b (omega (arith, leb-true (b % 2 ^ 31) 0x4480_0000 e))
 
-pub finite-no-nan : (b : ℕ) → finiteBits b ≡ true → T (not (nanBits binary32 b))
-unfolding finiteBits
+pub finite-no-nan : (b : ℕ) → finiteBitsOf b ≡ true → T (not (nanBits binary32 b))
+unfolding finiteBitsOf
 finite-no-nan b e = no-nan b (omega (arith, ltb-true (b % 2 ^ 31) 0x7f80_0000 e))
 
 -- a float that equals itself is no NaN, and one that does not is
@@ -55,8 +55,8 @@ unlike-nan x e = differs-from-itself x (no e)
 
 -- ---- finite patterns
 
-pub usable-finite : (b : ℕ) → usable b ≡ true → finiteBits b ≡ true
-unfolding usable finiteBits
+pub usable-finite : (b : ℕ) → usableOf b ≡ true → finiteBitsOf b ≡ true
+unfolding usableOf finiteBitsOf
 usable-finite b e = lt-ltb (b % 2 ^ 31) 0x7f80_0000 (omega (arith, leb-true (b % 2 ^ 31) 0x4480_0000 e))
 
 -- by the exponent's field, which is 255 in an infinity and a NaN alone
@@ -76,8 +76,8 @@ finite-fields s (suc x) t = go (eqb (suc x) 255) (eqb t 0)
     go false b = finite-odd 24 s (2 ^ 23 + t) x 149
 
 -- the test on the bits is the test on the float
-pub finiteBits-is : (b : ℕ) → finiteBits b ≡ finite (ofBits binary32 b)
-unfolding finiteBits ofBits
+pub finiteBits-is : (b : ℕ) → finiteBitsOf b ≡ finite (ofBits binary32 b)
+unfolding finiteBitsOf ofBits
 finiteBits-is b =
     ⊎-elim
     (λ (h : 0x7f80_0000 ≤ b % 2 ^ 31). le-ltb (b % 2 ^ 31) 0x7f80_0000 h ∙ sym (fields ∙ ap not (eq-eqb (b % 2 ^ 31 / 2 ^ 23) 255 (omega arith))))
@@ -87,7 +87,7 @@ finiteBits-is b =
     fields : finite (ofBits binary32 b) ≡ not (eqb (b % 2 ^ 31 / 2 ^ 23) 255)
     fields = finite-fields (leb (2 ^ 31) b) (b % 2 ^ 31 / 2 ^ 23) (b % 2 ^ 23)
 
-pub finiteBits-toBits : (x : Float) → T (fits binary32 x) → finiteBits (toBits binary32 x) ≡ finite x
+pub finiteBits-toBits : (x : Float) → T (fits binary32 x) → finiteBitsOf (toBits binary32 x) ≡ finite x
 finiteBits-toBits x f = finiteBits-is (toBits binary32 x) ∙ ap finite (ofBits-toBits binary32 x f)
 
 -- ---- there and back

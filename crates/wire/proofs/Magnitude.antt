@@ -11,7 +11,7 @@ use lib.Ieee.{Float, nan, inf, fin, binary32, up, down, odd, ofFields, ofBits}
 use lib.Ieee.Fits.{down-pos}
 use lib.Ieee.Exact.{HasValue, odd-sign}
 use borrow.Author.Tests.{le-leb, lt-leb, eqb-true}
-use Rattle.wire.specs.Wire.{usable}
+use Rattle.wire.specs.Wire.{usableOf}
 use Rattle.wire.proofs.Laws.{le-or-lt}
 
 -- finite and at most k in magnitude: `fin s m e` is m * 2 ^ e in size, and 2 ^ e is up e / down e
@@ -87,8 +87,8 @@ fields s (suc x) t h l = go (eqb (suc x) 255) (eqb t 0) refl
     go true false e = sym (lt-leb (suc x * 2 ^ 23 + t) 0x4480_0000 (omega (arith, eqb-true (suc x) 255 e)))
     go false b e = of-value 1024 (odd 24 s (2 ^ 23 + t) x 149) s ((2 ^ 23 + t) * 2 ^ x) (2 ^ 149) (pow-pos 149) (odd-sign 24 s (2 ^ 23 + t) x 149) ∙ normal x t l
 
-pub usable-is : (b : ℕ) → usable b ≡ atMost 1024 (ofBits binary32 b)
-unfolding usable ofBits
+pub usable-is : (b : ℕ) → usableOf b ≡ atMost 1024 (ofBits binary32 b)
+unfolding usableOf ofBits
 usable-is b =
     let e : b % 2 ^ 31 ≡ b % 2 ^ 31 / 2 ^ 23 * 2 ^ 23 + b % 2 ^ 23 = omega arith in
     ap (λ (r : ℕ). leb r 0x4480_0000) e ∙ sym (fields (leb (2 ^ 31) b) (b % 2 ^ 31 / 2 ^ 23) (b % 2 ^ 23) (omega arith) (omega arith))

@@ -7,8 +7,8 @@ use native.Mathlib.Nat.{add-assoc, add-zero}
 use native.Mathlib.Omega.{arith}
 use borrow.Author.Tests.{eq-eqb, ne-eqb}
 use lib.Dec.{eqb}
-use Rattle.wire.specs.Wire.{u32At, fourAt, sixteenAt, usable, allUsable}
-use Rattle.wire.specs.First.{first, usableEntry, firstUnusable}
+use Rattle.wire.specs.Wire.{u32At, fourAt, sixteenAt, usableOf, allUsable}
+use Rattle.wire.specs.First.{first, usableEntry, firstUnusableOf}
 
 pub and-four : (a b c d : Bool) → (a && b && c && d) ≡ (a && (b && (c && (d && true))))
 and-four true true true true = refl
@@ -19,7 +19,7 @@ and-four false b c d = refl
 
 all-append : (a b : List ℕ) → (allUsable a && allUsable b) ≡ allUsable (a ++ b)
 all-append [] b = refl
-all-append (w ∷ ws) b = go (usable w) (all-append ws b)
+all-append (w ∷ ws) b = go (usableOf w) (all-append ws b)
   where
     go : (u : Bool) → (allUsable ws && allUsable b) ≡ allUsable (ws ++ b) → ((u && allUsable ws) && allUsable b) ≡ (u && allUsable (ws ++ b))
     go true e = e
@@ -34,7 +34,7 @@ wordsFrom s p (suc n) i = u32At s (p + 4 * i) ∷ wordsFrom s p n (suc i)
 none-is-all : (s : List ℕ) (p n i : ℕ) → eqb (first (usableEntry s p) n i) (i + n) ≡ allUsable (wordsFrom s p n i)
 unfolding first usableEntry
 none-is-all s p zero i = let q : i ≡ i + 0 = omega arith in eq-eqb _ _ q
-none-is-all s p (suc n) i = go (usable (u32At s (p + 4 * i))) (none-is-all s p n (suc i))
+none-is-all s p (suc n) i = go (usableOf (u32At s (p + 4 * i))) (none-is-all s p n (suc i))
   where
     go : (u : Bool) → eqb (first (usableEntry s p) n (suc i)) (suc i + n) ≡ allUsable (wordsFrom s p n (suc i)) → eqb (cond u (first (usableEntry s p) n (suc i)) i) (i + suc n) ≡ (u && allUsable (wordsFrom s p n (suc i)))
     go true e = let q : i + suc n ≡ suc i + n = omega arith in rw q e
@@ -44,5 +44,5 @@ module _ (s : List ℕ) (p : ℕ) where
   pub by-fours : (allUsable (fourAt s p) && allUsable (fourAt s (p + 16)) && allUsable (fourAt s (p + 32)) && allUsable (fourAt s (p + 48))) ≡ allUsable (sixteenAt s p)
   by-fours = rw (all-append (fourAt s p) (fourAt s (p + 16)), all-append (fourAt s p ++ fourAt s (p + 16)) (fourAt s (p + 32)), all-append (fourAt s p ++ fourAt s (p + 16) ++ fourAt s (p + 32)) (fourAt s (p + 48))) (simp (add-assoc))
 
-  pub by-first : eqb (firstUnusable s p 16) 16 ≡ allUsable (sixteenAt s p)
+  pub by-first : eqb (firstUnusableOf s p 16) 16 ≡ allUsable (sixteenAt s p)
   by-first = none-is-all s p 16 0 ∙ rw (add-zero p) refl

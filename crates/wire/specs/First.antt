@@ -15,8 +15,8 @@ unfoldable pub usableEntry : List ℕ → ℕ → ℕ → Bool
 usableEntry s from i = usableAt s (from + 4 * i)
 
 -- The index of the first unusable one of count entries, and count where each is usable.
-abbrev pub firstUnusable : List ℕ → ℕ → ℕ → ℕ
-firstUnusable s from count = first (usableEntry s from) count 0
+abbrev pub firstUnusableOf : List ℕ → ℕ → ℕ → ℕ
+firstUnusableOf s from count = first (usableEntry s from) count 0
 
 -- The test holds at each of the first n numbers.
 unfoldable pub every : (ℕ → Bool) → ℕ → Bool
@@ -24,5 +24,5 @@ every ok zero = true
 every ok (suc n) = every ok n && ok n
 
 -- Of the entries left at p there are 64, and each of the 64 is usable.
-unfoldable pub blockUsable : List ℕ → ℕ → ℕ → Bool
-blockUsable s p left = leb 64 left && every (usableEntry s p) 64
+unfoldable pub blockUsableOf : List ℕ → ℕ → ℕ → Bool
+blockUsableOf s p left = leb 64 left && every (usableEntry s p) 64

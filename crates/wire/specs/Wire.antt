@@ -62,21 +62,21 @@ f32At s p = ofBits binary32 (u32At s p)
 
 -- A usable entry (document 01): finite and at most 1,024 in magnitude, by the bits, since 0x4480_0000 is 1,024. Magnitude.antt of proofs/
 -- shows the same of the float.
-unfoldable pub usable : ℕ → Bool
-usable b = leb (b % 2 ^ 31) 0x4480_0000
+unfoldable pub usableOf : ℕ → Bool
+usableOf b = leb (b % 2 ^ 31) 0x4480_0000
 
 -- The entry at p is usable.
 abbrev pub usableAt : List ℕ → ℕ → Bool
-usableAt s p = usable (u32At s p)
+usableAt s p = usableOf (u32At s p)
 
 -- Each of the patterns is usable.
 abbrev pub allUsable : List ℕ → Bool
 allUsable [] = true
-allUsable (b ∷ bs) = usable b && allUsable bs
+allUsable (b ∷ bs) = usableOf b && allUsable bs
 
 -- Finite: below the infinity's bits.
-unfoldable pub finiteBits : ℕ → Bool
-finiteBits b = ltb (b % 2 ^ 31) 0x7f80_0000
+unfoldable pub finiteBitsOf : ℕ → Bool
+finiteBitsOf b = ltb (b % 2 ^ 31) 0x7f80_0000
 
 -- ---- writing
 

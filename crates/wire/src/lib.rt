@@ -7,8 +7,8 @@ ghost use lib.ListN.{length};
 ghost use lib.Ieee.{binary32, ofBits, toBits};
 ghost use mir.Syntax.{w16};
 ghost use mir.Val.{toZ, ofZ};
-ghost use Rattle.wire.specs.Wire.{little, byteAt, u16At, i16At, u32At, fourAt, sixteenAt, f32At, usable, usableAt, allUsable, finiteBits, bytesOf, floatBytes, rowBytes, putAt};
-ghost use Rattle.wire.specs.First.{firstUnusable, blockUsable};
+ghost use Rattle.wire.specs.Wire.{little, byteAt, u16At, i16At, u32At, fourAt, sixteenAt, f32At, usableOf, usableAt, allUsable, finiteBitsOf, bytesOf, floatBytes, rowBytes, putAt};
+ghost use Rattle.wire.specs.First.{firstUnusableOf, blockUsableOf};
 
 // ---- numbers and their bits
 
@@ -54,14 +54,14 @@ pub fn float_bits(x: f32) -> u32
 
 // Whether a pattern is a usable entry's: finite and at most 1,024 in magnitude.
 pub fn usable(bits: u32) -> bool
-    ensures { λ r. ⌜ r ≡ usable bits ⌝ }
+    ensures { λ r. ⌜ r ≡ usableOf bits ⌝ }
 {
     bits % 0x8000_0000 <= 0x4480_0000
 }
 
 // Whether a pattern is a finite float's.
 pub fn finite_bits(bits: u32) -> bool
-    ensures { λ r. ⌜ r ≡ finiteBits bits ⌝ }
+    ensures { λ r. ⌜ r ≡ finiteBitsOf bits ⌝ }
 {
     bits % 0x8000_0000 < 0x7f80_0000
 }
@@ -209,7 +209,7 @@ pub fn usable_at(s: &[u8], p: usize) -> bool
 // Whether 64 entries are left at p, and each of the 64 is usable. With no way out of the loop the compiler makes vector code of it.
 fn block_usable(s: &[u8], p: usize, left: usize) -> bool
     requires { ⌜ p + 4 * left ≤ length (now s) ⌝ }
-    ensures { λ r. ⌜ r ≡ blockUsable (now (s .entry)) p left ⌝ }
+    ensures { λ r. ⌜ r ≡ blockUsableOf (now (s .entry)) p left ⌝ }
 {
     if left < 64 {
         return false;
@@ -226,7 +226,7 @@ fn block_usable(s: &[u8], p: usize, left: usize) -> bool
 // Of n entries that lie whole in the bytes: 64 at a time where they are usable, else one.
 fn scan(s: &[u8], from: usize, n: usize) -> usize
     requires { ⌜ from + 4 * n ≤ length (now s) ⌝ }
-    ensures { λ r. ⌜ r ≡ firstUnusable (now (s .entry)) from n ⌝ }
+    ensures { λ r. ⌜ r ≡ firstUnusableOf (now (s .entry)) from n ⌝ }
 {
     let mut i = 0;
     while i < n {
@@ -244,7 +244,7 @@ fn scan(s: &[u8], from: usize, n: usize) -> usize
 // The index of the first unusable one of count entries from the byte from on, and count where each is usable.
 // Entries past the end read as 0, so only those that lie whole in the bytes are looked at.
 pub fn first_unusable(s: &[u8], from: usize, count: usize) -> usize
-    ensures { λ r. ⌜ r ≡ firstUnusable (now (s .entry)) from count ⌝ }
+    ensures { λ r. ⌜ r ≡ firstUnusableOf (now (s .entry)) from count ⌝ }
 {
     if s.len() < from {
         return count;

@@ -1,4 +1,4 @@
-use Rattle.control.specs.Block.{finiteF32}
+use Rattle.control.specs.Block.{finiteF32Of}
 use borrow.Author.Needs.{needs}
 use Rattle.control.proofs.finite_f32.Statement.{statement}
 use Rattle.control.proofs.finite_f32.Tie as tie
@@ -7,7 +7,7 @@ is-finite-requires : tie.Need-is-finite-requires
 is-finite-requires c κs = search needs
 
 returns : tie.Need-returns
-unfolding finiteF32
+unfolding finiteF32Of
 returns c = rw (c .before .good .0 .1) (c .is-finite .ensures)
 
 pub finite-f32-spec : {M : Type 1} → statement M

@@ -1,4 +1,4 @@
-use Rattle.control.specs.Block.{finiteFloats}
+use Rattle.control.specs.Block.{finiteFloatsOf}
 use borrow.Author.Needs.{needs}
 use Rattle.control.proofs.finite_floats.Statement.{statement}
 use Rattle.control.proofs.finite_floats.Tie as tie
@@ -13,7 +13,7 @@ finite-f32-requires-3 : tie.Need-finite-f32-requires-3
 finite-f32-requires-3 c κs = search needs
 
 returns : tie.Need-returns
-unfolding finiteFloats
+unfolding finiteFloatsOf
 returns c = rw (c .before .before .finite-f32 .ensures, c .before .finite-f322 .ensures, c .finite-f323 .ensures)
 
 pub finite-floats-spec : {M : Type 1} → statement M

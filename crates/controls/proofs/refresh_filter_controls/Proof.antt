@@ -1,4 +1,4 @@
-use Rattle.controls.specs.Controls.{filterControlsOf}
+use Rattle.controls.specs.Controls.{refreshFilterControlsOf}
 use borrow.Author.Needs.{needs}
 use Rattle.controls.proofs.refresh_filter_controls.Statement.{statement}
 use Rattle.controls.proofs.refresh_filter_controls.Tie as tie
@@ -52,7 +52,7 @@ resonance-output-gain-requires : tie.Need-resonance-output-gain-requires
 resonance-output-gain-requires c κs = search needs
 
 returns : tie.Need-returns
-unfolding filterControlsOf
+unfolding refreshFilterControlsOf
 returns c = simp (c .resonance-output-gain .ensures, c .before .modulation-scale .ensures, c .before .before .feedback-scale .ensures, c .before .before .before .band-pass-low-coupling .ensures, c .before .before .before .before .high-pass-low-coupling .ensures, c .before .before .before .before .before .entry-at2 .ensures, c .before .before .before .before .before .before .source-gain-modulation-place .ensures, c .before .before .before .before .before .before .before .entry-at .ensures, c .before .before .before .before .before .before .before .before .damping-place .ensures, c .before .before .before .before .before .before .before .before .before .sixteen-of2 .ensures, c .before .before .before .before .before .before .before .before .before .before .feedback-drive .ensures, c .before .before .before .before .before .before .before .before .before .before .before .sixteen-of .ensures, c .before .before .before .before .before .before .before .before .before .before .before .before .input-drive .ensures, c .before .before .before .before .before .before .before .before .before .before .before .before .before .integrator-gain .ensures, c .before .before .before .before .before .before .before .before .before .before .before .before .before .before .resonance-position .ensures, c .before .before .before .before .before .before .before .before .before .before .before .before .before .before .before .of-u16 .ensures)
 
 pub refresh-filter-controls-spec : {M : Type 1} → statement M

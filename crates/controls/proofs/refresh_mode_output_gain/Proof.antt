@@ -1,4 +1,4 @@
-use Rattle.controls.specs.Controls.{modeGainOf}
+use Rattle.controls.specs.Controls.{refreshModeOutputGainOf}
 use borrow.Author.Needs.{needs}
 use Rattle.controls.proofs.refresh_mode_output_gain.Statement.{statement}
 use Rattle.controls.proofs.refresh_mode_output_gain.Tie as tie
@@ -16,7 +16,7 @@ directional-requires : tie.Need-directional-requires
 directional-requires c κs = search needs
 
 returns : tie.Need-returns
-unfolding modeGainOf
+unfolding refreshModeOutputGainOf
 returns c = simp (c .directional .ensures, c .before .filter-mode-output-gain .ensures, c .before .before .entry-at .ensures, c .before .before .before .highpass-loading-place .ensures)
 
 pub refresh-mode-output-gain-spec : {M : Type 1} → statement M

@@ -1,4 +1,4 @@
-use Rattle.controls.specs.Controls.{outputControlsOf}
+use Rattle.controls.specs.Controls.{refreshRegisterOutputStateOf}
 use borrow.Author.Needs.{needs}
 use Rattle.controls.proofs.refresh_register_output_state.Statement.{statement}
 use Rattle.controls.proofs.refresh_register_output_state.Tie as tie
@@ -13,7 +13,7 @@ of-u16-requires : tie.Need-of-u16-requires
 of-u16-requires c κs = search needs
 
 returns : tie.Need-returns
-unfolding outputControlsOf
+unfolding refreshRegisterOutputStateOf
 returns c = simp (c .before .before .before .of-u16 .ensures, c .before .before .before .before .before .filter-output-common-mode .ensures)
 
 pub refresh-register-output-state-spec : {M : Type 1} → statement M

@@ -1,7 +1,7 @@
 use mathlib.Core.Path.{_∙_}
 use Prim.Native.Nat.{ℕ, _≤_}
 use denote.Ref.{now}
-use Rattle.curves.specs.Building.{rowOf, UsableRow}
+use Rattle.curves.specs.Building.{tableRowOf, UsableRow}
 use Rattle.curves.proofs.Laws.{load-lower, load-upper}
 use Rattle.curves.proofs.Building.{row-usable, blends-curve}
 use borrow.Author.Needs.{needs}
@@ -18,7 +18,7 @@ load-position-requires c κs = search needs
 inside : (c : tie.After-load-position) → (c .load-position .result .«lower_base» ≤ 294912) × (c .load-position .result .«upper_base» ≤ 294912)
 inside c = rw (c .load-position .ensures) (load-lower (c .before .curve-load .result), load-upper (c .before .curve-load .result))
 
-usable-row : (c : tie.After-load-position) (base : ℕ) → base ≤ 294912 → UsableRow (rowOf (now (c .before .before .before .before .args .bundle)) base)
+usable-row : (c : tie.After-load-position) (base : ℕ) → base ≤ 294912 → UsableRow (tableRowOf (now (c .before .before .before .before .args .bundle)) base)
 usable-row c base h = let b = c .before .before .before .before .pre .0 in row-usable _ (b .long) base h (b .judged)
 
 table-row-requires : tie.Need-table-row-requires

@@ -1,6 +1,6 @@
 use borrow.Author.Tests.{le-leb, lt-leb}
 use Rattle.bundle.specs.Opening.{judgePlacesOf}
-use Rattle.curves.specs.Sampling.{restingPlacesOf}
+use Rattle.curves.specs.Sampling.{summerRestingPlacesOf}
 use borrow.Author.Needs.{needs}
 use Rattle.curves.proofs.judge_summer_resting_output.Statement.{statement}
 use Rattle.curves.proofs.judge_summer_resting_output.Tie as tie
@@ -15,13 +15,13 @@ judge-sample-requires : tie.Need-judge-sample-requires
 judge-sample-requires c κs = search needs
 
 returns : tie.Need-returns
-unfolding restingPlacesOf
+unfolding summerRestingPlacesOf
 returns c =
     let z = c .before .before .before in
     simp (le-leb _ _ (z .if1 .taken), c .judge-sample .ensures, c .before .filter-mode-quiescent-level .ensures, c .before .before .of-usize .ensures)
 
 returns-2 : tie.Need-returns-2
-unfolding restingPlacesOf judgePlacesOf
+unfolding summerRestingPlacesOf judgePlacesOf
 returns-2 c = rw (lt-leb _ _ (c .if1 .left))
 
 pub judge-summer-resting-output-spec : {M : Type 1} → statement M

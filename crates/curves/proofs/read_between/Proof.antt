@@ -3,7 +3,7 @@ use mathlib.Core.List.{[], _∷_}
 use denote.Ref.{now}
 use Rattle.bundle.proofs.Laws.{judge-append}
 use Rattle.bundle.proofs.Reading.{first-refused, second-refused, both-read}
-use Rattle.response.specs.Levels.{between}
+use Rattle.response.specs.Levels.{interpolateOf}
 use borrow.Author.Needs.{needs}
 use Rattle.curves.proofs.read_between.Statement.{statement}
 use Rattle.curves.proofs.read_between.Tie as tie
@@ -47,7 +47,7 @@ returns-3 c =
     let s = c .before .before .before .before in
     let r = s .before .before .before .before in
     let a = r .before .before .args in
-    rw (judge-append (a .buffer) (now (a .bytes)) (a .lower ∷ []) (a .upper ∷ []), c .interpolate .ensures) (both-read _ _ _ _ (λ x y. between x y (a .fraction)) (sym (s .before .before .first2 .given .1) ∙ r .read-entry .ensures) (sym (c .before .before .second2 .given .1) ∙ s .read-entry2 .ensures))
+    rw (judge-append (a .buffer) (now (a .bytes)) (a .lower ∷ []) (a .upper ∷ []), c .interpolate .ensures) (both-read _ _ _ _ (λ x y. interpolateOf x y (a .fraction)) (sym (s .before .before .first2 .given .1) ∙ r .read-entry .ensures) (sym (c .before .before .second2 .given .1) ∙ s .read-entry2 .ensures))
 
 pub read-between-spec : {M : Type 1} → statement M
 read-between-spec =

@@ -1,7 +1,7 @@
 use borrow.Author.Tests.{le-leb, lt-leb}
 use Rattle.bundle.specs.Opening.{judgePlacesOf}
 use Rattle.bundle.specs.Reading.{readOf}
-use Rattle.curves.specs.Sampling.{restingOutputOf, restingPlacesOf}
+use Rattle.curves.specs.Sampling.{summerRestingOutputOf, summerRestingPlacesOf}
 use borrow.Author.Needs.{needs}
 use Rattle.curves.proofs.read_resting_output.Statement.{statement}
 use Rattle.curves.proofs.read_resting_output.Tie as tie
@@ -16,13 +16,13 @@ read-sample-requires : tie.Need-read-sample-requires
 read-sample-requires c κs = search needs
 
 returns : tie.Need-returns
-unfolding restingOutputOf restingPlacesOf
+unfolding summerRestingOutputOf summerRestingPlacesOf
 returns c =
     let z = c .before .before .before in
     simp (le-leb _ _ (z .if1 .taken), c .read-sample .ensures, c .before .filter-mode-quiescent-level .ensures, c .before .before .of-usize .ensures)
 
 returns-2 : tie.Need-returns-2
-unfolding restingOutputOf restingPlacesOf judgePlacesOf readOf
+unfolding summerRestingOutputOf summerRestingPlacesOf judgePlacesOf readOf
 returns-2 c = rw (lt-leb _ _ (c .if1 .left))
 
 pub read-resting-output-spec : {M : Type 1} → statement M

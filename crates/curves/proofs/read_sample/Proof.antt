@@ -6,7 +6,7 @@ use denote.Ref.{now}
 use Rattle.answers.specs.declared.Buffer.the-variants.{Bundle}
 use Rattle.bundle.proofs.Laws.{judge-append}
 use Rattle.bundle.proofs.Reading.{first-refused, second-refused, both-read}
-use Rattle.response.specs.Levels.{between}
+use Rattle.response.specs.Levels.{interpolateOf}
 use Rattle.curves.specs.Sampling.{tablePlace, sampleOf, sampleAtOf, samplePlacesOf, cornersOf}
 use Rattle.curves.proofs.Laws.{load-lower, load-upper, input-lower, input-upper, corners-apart}
 use borrow.Author.Needs.{needs}
@@ -70,7 +70,7 @@ returns-3 c =
     let p = r .before in
     let a = p .before .before .before .args in
     let load = p .before .load-position .result in
-    rw (← p .before .load-position .ensures, ← p .input-position .ensures, corners-apart (now (a .bundle)), c .interpolate .ensures) (both-read _ _ _ _ (λ x y. between x y (load .fraction)) (sym (s .before .before .lower2 .given .1) ∙ r .read-row .ensures) (sym (c .before .before .upper2 .given .1) ∙ s .read-row2 .ensures))
+    rw (← p .before .load-position .ensures, ← p .input-position .ensures, corners-apart (now (a .bundle)), c .interpolate .ensures) (both-read _ _ _ _ (λ x y. interpolateOf x y (load .fraction)) (sym (s .before .before .lower2 .given .1) ∙ r .read-row .ensures) (sym (c .before .before .upper2 .given .1) ∙ s .read-row2 .ensures))
 
 pub read-sample-spec : {M : Type 1} → statement M
 read-sample-spec =

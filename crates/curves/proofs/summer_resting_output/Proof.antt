@@ -1,5 +1,5 @@
 use borrow.Author.Tests.{le-leb, lt-leb}
-use Rattle.curves.specs.Sampling.{restingOutputOf}
+use Rattle.curves.specs.Sampling.{summerRestingOutputOf}
 use borrow.Author.Needs.{needs}
 use Rattle.curves.proofs.summer_resting_output.Statement.{statement}
 use Rattle.curves.proofs.summer_resting_output.Tie as tie
@@ -14,13 +14,13 @@ sample-requires : tie.Need-sample-requires
 sample-requires c κs = search needs
 
 returns : tie.Need-returns
-unfolding restingOutputOf
+unfolding summerRestingOutputOf
 returns c =
     let z = c .before .before .before in
     simp (le-leb _ _ (z .if1 .taken), c .sample .ensures, c .before .filter-mode-quiescent-level .ensures, c .before .before .of-usize .ensures)
 
 returns-2 : tie.Need-returns-2
-unfolding restingOutputOf
+unfolding summerRestingOutputOf
 returns-2 c = rw (lt-leb _ _ (c .if1 .left))
 
 pub summer-resting-output-spec : {M : Type 1} → statement M

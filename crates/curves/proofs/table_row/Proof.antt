@@ -1,7 +1,7 @@
 use Prim.Native.Nat.{_+_, _-_, _*_}
 use mathlib.Core.Path.{_≡_}
 use native.Mathlib.Omega.{arith}
-use Rattle.curves.specs.Building.{rowOf}
+use Rattle.curves.specs.Building.{tableRowOf}
 use borrow.Author.Needs.{needs}
 use Rattle.curves.proofs.table_row.Statement.{statement}
 use Rattle.curves.proofs.table_row.Tie as tie
@@ -25,7 +25,7 @@ part-result-end : tie.Need-part-result-end
 part-result-end c = search needs
 
 returns : tie.Need-returns
-unfolding rowOf
+unfolding tableRowOf
 returns c =
     let from = 2105464 + 4 * c .before .args .base in
     let e : from + 8192 - from ≡ 8192 = omega arith in

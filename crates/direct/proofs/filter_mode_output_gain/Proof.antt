@@ -1,4 +1,4 @@
-use Rattle.direct.specs.Calls.{modeGainCallOf, modeGainAnswerOf}
+use Rattle.direct.specs.Calls.{filterModeOutputGainCallOf, filterModeOutputGainAnswerOf}
 use borrow.Author.Needs.{needs}
 use Rattle.direct.proofs.filter_mode_output_gain.Statement.{statement}
 use Rattle.direct.proofs.filter_mode_output_gain.Tie as tie
@@ -31,7 +31,7 @@ finished-requires : tie.Need-finished-requires
 finished-requires c κs = search needs
 
 returns : tie.Need-returns
-unfolding modeGainCallOf modeGainAnswerOf
+unfolding filterModeOutputGainCallOf filterModeOutputGainAnswerOf
 returns c =
     let y = c .before .before .before .before in
     let z = y .before .before .before .before in

@@ -1,4 +1,4 @@
-use Rattle.direct.specs.Calls.{commonModeCallOf}
+use Rattle.direct.specs.Calls.{filterOutputCommonModeCallOf}
 use borrow.Author.Needs.{needs}
 use Rattle.direct.proofs.filter_output_common_mode.Statement.{statement}
 use Rattle.direct.proofs.filter_output_common_mode.Tie as tie
@@ -13,7 +13,7 @@ finished-requires : tie.Need-finished-requires
 finished-requires c κs = search needs
 
 returns : tie.Need-returns
-unfolding commonModeCallOf
+unfolding filterOutputCommonModeCallOf
 returns c = simp (c .finished .ensures, c .before .filter-output-common-mode .ensures, c .before .before .unless .ensures)
 
 pub filter-output-common-mode-spec : {M : Type 1} → statement M

@@ -1,4 +1,4 @@
-use Rattle.direct.specs.Calls.{mixerCallOf, mixerAnswerOf}
+use Rattle.direct.specs.Calls.{mixerTransferCallOf, mixerAnswerOf}
 use borrow.Author.Needs.{needs}
 use Rattle.direct.proofs.mixer_transfer.Statement.{statement}
 use Rattle.direct.proofs.mixer_transfer.Tie as tie
@@ -40,7 +40,7 @@ finished-requires : tie.Need-finished-requires
 finished-requires c κs = search needs
 
 returns : tie.Need-returns
-unfolding mixerCallOf mixerAnswerOf
+unfolding mixerTransferCallOf mixerAnswerOf
 returns c =
     let y = c .before .before .before .before in
     let z = y .before .before .before .before in

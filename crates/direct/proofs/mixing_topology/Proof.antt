@@ -1,4 +1,4 @@
-use Rattle.direct.specs.Calls.{topologyCallOf}
+use Rattle.direct.specs.Calls.{mixingTopologyCallOf}
 use borrow.Author.Needs.{needs}
 use Rattle.direct.proofs.mixing_topology.Statement.{statement}
 use Rattle.direct.proofs.mixing_topology.Tie as tie
@@ -13,7 +13,7 @@ topology-of-requires : tie.Need-topology-of-requires
 topology-of-requires c κs = search needs
 
 returns : tie.Need-returns
-unfolding topologyCallOf
+unfolding mixingTopologyCallOf
 returns c = simp (c .topology-of .ensures, c .before .update .ensures, c .before .before .unless .ensures)
 
 pub mixing-topology-spec : {M : Type 1} → statement M

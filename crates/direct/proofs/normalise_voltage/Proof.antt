@@ -1,4 +1,4 @@
-use Rattle.direct.specs.Calls.{voltageCallOf}
+use Rattle.direct.specs.Calls.{normaliseVoltageCallOf}
 use borrow.Author.Needs.{needs}
 use Rattle.direct.proofs.normalise_voltage.Statement.{statement}
 use Rattle.direct.proofs.normalise_voltage.Tie as tie
@@ -16,7 +16,7 @@ finished-requires : tie.Need-finished-requires
 finished-requires c κs = search needs
 
 returns : tie.Need-returns
-unfolding voltageCallOf
+unfolding normaliseVoltageCallOf
 returns c = simp (c .finished .ensures, c .before .normalise-voltage .ensures, c .before .before .unless .ensures, c .before .before .before .is-finite .ensures)
 
 pub normalise-voltage-spec : {M : Type 1} → statement M

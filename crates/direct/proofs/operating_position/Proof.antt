@@ -1,4 +1,4 @@
-use Rattle.direct.specs.Calls.{positionCallOf}
+use Rattle.direct.specs.Calls.{operatingPositionCallOf}
 use borrow.Author.Needs.{needs}
 use Rattle.direct.proofs.operating_position.Statement.{statement}
 use Rattle.direct.proofs.operating_position.Tie as tie
@@ -22,7 +22,7 @@ position-of-requires : tie.Need-position-of-requires
 position-of-requires c κs = search needs
 
 returns : tie.Need-returns
-unfolding positionCallOf
+unfolding operatingPositionCallOf
 returns c =
     let y = c .before .before .before .before in
     simp (c .position-of .ensures, c .before .operating-position .ensures, c .before .before .unless .ensures, c .before .before .before .is-finite3 .ensures, y .is-finite2 .ensures, y .before .is-finite .ensures)

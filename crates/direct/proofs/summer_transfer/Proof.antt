@@ -1,4 +1,4 @@
-use Rattle.direct.specs.Calls.{summerCallOf, summerAnswerOf}
+use Rattle.direct.specs.Calls.{summerTransferCallOf, summerAnswerOf}
 use borrow.Author.Needs.{needs}
 use Rattle.direct.proofs.summer_transfer.Statement.{statement}
 use Rattle.direct.proofs.summer_transfer.Tie as tie
@@ -46,7 +46,7 @@ finished-requires : tie.Need-finished-requires
 finished-requires c κs = search needs
 
 returns : tie.Need-returns
-unfolding summerCallOf summerAnswerOf
+unfolding summerTransferCallOf summerAnswerOf
 returns c =
     let y = c .before .before .before .before in
     let z = y .before .before .before .before in

@@ -1,4 +1,4 @@
-use Rattle.direct.specs.Calls.{conductanceCallOf}
+use Rattle.direct.specs.Calls.{volumeDacConductanceCodeCallOf}
 use borrow.Author.Needs.{needs}
 use Rattle.direct.proofs.volume_dac_conductance_code.Statement.{statement}
 use Rattle.direct.proofs.volume_dac_conductance_code.Tie as tie
@@ -13,7 +13,7 @@ finished-requires : tie.Need-finished-requires
 finished-requires c κs = search needs
 
 returns : tie.Need-returns
-unfolding conductanceCallOf
+unfolding volumeDacConductanceCodeCallOf
 returns c = simp (c .finished .ensures, c .before .volume-dac-conductance-code .ensures, c .before .before .unless .ensures)
 
 pub volume-dac-conductance-code-spec : {M : Type 1} → statement M

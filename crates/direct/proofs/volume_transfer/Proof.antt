@@ -1,4 +1,4 @@
-use Rattle.direct.specs.Calls.{volumeCallOf, volumeAnswerOf}
+use Rattle.direct.specs.Calls.{volumeTransferCallOf, volumeAnswerOf}
 use borrow.Author.Needs.{needs}
 use Rattle.direct.proofs.volume_transfer.Statement.{statement}
 use Rattle.direct.proofs.volume_transfer.Tie as tie
@@ -31,7 +31,7 @@ finished-requires : tie.Need-finished-requires
 finished-requires c κs = search needs
 
 returns : tie.Need-returns
-unfolding volumeCallOf volumeAnswerOf
+unfolding volumeTransferCallOf volumeAnswerOf
 returns c =
     let y = c .before .before .before .before in
     simp (c .finished .ensures, c .before .first2 .ensures, c .before .before .curves-length .ensures, c .before .before .before .first .ensures, y .judge-volume .ensures, y .before .unless .ensures, y .before .before .is-finite .ensures, y .before .before .before .volume-transfer .ensures, y .before .before .before .before .volume-slot .ensures)

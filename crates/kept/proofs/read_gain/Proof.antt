@@ -2,10 +2,10 @@ use mathlib.Core.Path.{sym, _∙_}
 use denote.Ref.{now}
 use Rattle.bundle.proofs.Reading.{first-refused, second-refused, both-read}
 use Rattle.floats.specs.Arithmetic.{_⊗_, f32}
-use Rattle.response.specs.Gain.{modeOutputGainOf}
+use Rattle.response.specs.Gain.{filterModeOutputGainOf}
 use Rattle.bundle.specs.Layout.{highpassLoadingPlace}
 use Rattle.bundle.specs.Opening.{entryAt}
-use Rattle.controls.specs.Controls.{modeGainOf}
+use Rattle.controls.specs.Controls.{refreshModeOutputGainOf}
 use Rattle.controls.specs.Judging.{judgeModeOf}
 use Rattle.kept.proofs.Laws.{loading-unread}
 use borrow.Author.Needs.{needs}
@@ -44,13 +44,13 @@ returns-2 c =
     second-refused _ _ _ _ _ (sym (d .before .before .loading2 .given .1) ∙ d .before .before .before .before .read-loading .ensures) (sym (c .before .directional .given .1) ∙ d .read-directional .ensures)
 
 returns-3 : tie.Need-returns-3
-unfolding judgeModeOf modeGainOf
+unfolding judgeModeOf refreshModeOutputGainOf
 returns-3 c =
     let d = c .before .before .before .before in
     let l = d .before .before .before .before in
     let a = l .before .before .before .args in
     rw (c .filter-mode-output-gain .ensures, ← loading-unread (a .r .mode) (a .r .resonance) (a .effective) (entryAt (now (a .bundle)) (highpassLoadingPlace (a .effective))) (f32 0x3f80_0000))
-    (both-read _ _ _ _ (λ x y. modeOutputGainOf (a .r .mode) (a .r .resonance) (a .effective) x ⊗ y) (sym (d .before .before .loading2 .given .1) ∙ l .read-loading .ensures) (sym (c .before .before .directional2 .given .1) ∙ d .read-directional .ensures))
+    (both-read _ _ _ _ (λ x y. filterModeOutputGainOf (a .r .mode) (a .r .resonance) (a .effective) x ⊗ y) (sym (d .before .before .loading2 .given .1) ∙ l .read-loading .ensures) (sym (c .before .before .directional2 .given .1) ∙ d .read-directional .ensures))
 
 pub read-gain-spec : {M : Type 1} → statement M
 read-gain-spec =

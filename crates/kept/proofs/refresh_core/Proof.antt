@@ -1,5 +1,5 @@
 use denote.Ref.{now}
-use Rattle.controls.specs.Controls.{filterControlsOf}
+use Rattle.controls.specs.Controls.{refreshFilterControlsOf}
 use Rattle.kept.specs.Kept.{coreRefreshedOf}
 use Rattle.kept.proofs.Words.{gains-read}
 use borrow.Author.Needs.{needs}
@@ -61,7 +61,7 @@ resonance-output-gain-requires : tie.Need-resonance-output-gain-requires
 resonance-output-gain-requires c κs = search needs
 
 returns : tie.Need-returns
-unfolding coreRefreshedOf filterControlsOf
+unfolding coreRefreshedOf refreshFilterControlsOf
 returns c =
     let d = c .before .before .before .before .before .before .before .before in
     let a = d .before .before .before .before .before .before .before .before .before .args in

@@ -4,7 +4,7 @@ use native.Mathlib.Omega.{arith}
 use lib.Ieee.Scale.{finite}
 use Rattle.answers.specs.declared.Answer.the-variants.{Domain}
 use Rattle.bundle.proofs.Reading.{first-refused, test-passed, test-failed}
-use Rattle.controls.specs.Controls.{outputControlsOf}
+use Rattle.controls.specs.Controls.{refreshRegisterOutputStateOf}
 use Rattle.controls.specs.Judging.{finiteOutputOf}
 use Rattle.finite.proofs.Finite.{output-finite}
 use Rattle.kept.specs.Kept.{judgeGainOf}
@@ -29,7 +29,7 @@ unfolding judgeGainOf
 returns c =
     let g = c .before .before .before .before .before in
     let r = g .before .before .args .r in
-    test-passed _ _ (λ x. finite x && finiteOutputOf (outputControlsOf r)) Domain (sym (c .before .before .before .read2 .given .1) ∙ g .read-gain .ensures)
+    test-passed _ _ (λ x. finite x && finiteOutputOf (refreshRegisterOutputStateOf r)) Domain (sym (c .before .before .before .read2 .given .1) ∙ g .read-gain .ensures)
     (simp (sym (c .before .is-finite .ensures) ∙ c .if1 .taken, output-finite r (omega arith) (omega arith)))
 
 returns-2 : tie.Need-returns-2
@@ -41,7 +41,7 @@ unfolding judgeGainOf
 returns-3 c =
     let g = c .before .before .before .before .before in
     let r = g .before .before .args .r in
-    test-failed _ _ (λ x. finite x && finiteOutputOf (outputControlsOf r)) Domain refl (sym (c .before .before .before .read2 .given .1) ∙ g .read-gain .ensures)
+    test-failed _ _ (λ x. finite x && finiteOutputOf (refreshRegisterOutputStateOf r)) Domain refl (sym (c .before .before .before .read2 .given .1) ∙ g .read-gain .ensures)
     (simp (sym (c .before .is-finite .ensures) ∙ c .if1 .left))
 
 pub refresh-gain-spec : {M : Type 1} → statement M

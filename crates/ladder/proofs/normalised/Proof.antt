@@ -3,14 +3,14 @@ use Prim.Native.Nat.{_≤_, _-_}
 use mathlib.Core.Path.{refl}
 use native.Mathlib.Omega.{arith}
 use borrow.Author.Needs.{needs}
-use Rattle.ladder.specs.Arithmetic.{_⊘_}
+use Rattle.ladder.specs.Arithmetic.{_⧄_}
 use Rattle.ladder.specs.Ladder.{at, totalOf}
 use Rattle.ladder.proofs.Laws.{Filled, filled-none, filled-up, filled-all}
 use Rattle.ladder.proofs.normalised.Statement.{statement}
 use Rattle.ladder.proofs.normalised.Tie as tie
 
 abbrev Inv-loop : tie.InvT-loop
-Inv-loop xs sum shares₀ i₀ shares i = (i ≤ 12) × Filled (λ k. at xs k ⊘ totalOf xs) 0 i shares
+Inv-loop xs sum shares₀ i₀ shares i = (i ≤ 12) × Filled (λ k. at xs k ⧄ totalOf xs) 0 i shares
 
 abbrev μ-loop : tie.MeasureT-loop
 μ-loop xs sum shares₀ i₀ shares i = 12 - i

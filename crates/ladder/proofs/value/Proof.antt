@@ -6,14 +6,14 @@ use native.Mathlib.Nat.{div-one}
 use native.Mathlib.Omega.{arith}
 use borrow.Author.Needs.{needs}
 use borrow.Author.Tests.{eq-eqb, ne-eqb}
-use Rattle.ladder.specs.Arithmetic.{_⊗_}
+use Rattle.ladder.specs.Arithmetic.{_⊠_}
 use Rattle.ladder.specs.Ladder.{at, levelAt, sumOf, valueOf}
 use Rattle.ladder.proofs.Laws.{sum-more, halved}
 use Rattle.ladder.proofs.value.Statement.{statement}
 use Rattle.ladder.proofs.value.Tie as tie
 
 abbrev Inv-loop : tie.InvT-loop
-Inv-loop code weights leakage sum₀ rest₀ bit₀ sum rest bit = (bit ≤ 12) × (rest ≡ code / 2 ^ bit) × (sum ≡ sumOf (λ b. levelAt code leakage b ⊗ at weights b) bit)
+Inv-loop code weights leakage sum₀ rest₀ bit₀ sum rest bit = (bit ≤ 12) × (rest ≡ code / 2 ^ bit) × (sum ≡ sumOf (λ b. levelAt code leakage b ⊠ at weights b) bit)
 
 abbrev μ-loop : tie.MeasureT-loop
 μ-loop code weights leakage sum₀ rest₀ bit₀ sum rest bit = 12 - bit

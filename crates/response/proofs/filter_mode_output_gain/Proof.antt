@@ -1,4 +1,4 @@
-use Rattle.response.specs.Gain.{modeOutputGainOf}
+use Rattle.response.specs.Gain.{filterModeOutputGainOf}
 use borrow.Author.Needs.{needs}
 use Rattle.response.proofs.filter_mode_output_gain.Statement.{statement}
 use Rattle.response.proofs.filter_mode_output_gain.Tie as tie
@@ -28,7 +28,7 @@ single-mode-loading-requires : tie.Need-single-mode-loading-requires
 single-mode-loading-requires c κs = search needs
 
 returns : tie.Need-returns
-unfolding modeOutputGainOf
+unfolding filterModeOutputGainOf
 returns c =
     simp (
       c .single-mode-loading .ensures,

@@ -1,4 +1,4 @@
-use Rattle.response.specs.Levels.{outputCommonModeOf}
+use Rattle.response.specs.Levels.{filterOutputCommonModeOf}
 use borrow.Author.Needs.{needs}
 use Rattle.response.proofs.filter_output_common_mode.Statement.{statement}
 use Rattle.response.proofs.filter_output_common_mode.Tie as tie
@@ -25,7 +25,7 @@ add-if-requires-3 : tie.Need-add-if-requires-3
 add-if-requires-3 c κs = search needs
 
 returns : tie.Need-returns
-unfolding outputCommonModeOf
+unfolding filterOutputCommonModeOf
 returns c =
     simp (
       c .add-if3 .ensures,

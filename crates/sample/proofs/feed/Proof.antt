@@ -1,5 +1,5 @@
 use borrow.Author.Tests.{le-leb, lt-leb}
-use Rattle.sample.specs.Kept.{feedOf}
+use Rattle.sample.specs.Kept.{coreInputOf}
 use borrow.Author.Needs.{needs}
 use Rattle.sample.proofs.feed.Statement.{statement}
 use Rattle.sample.proofs.feed.Tie as tie
@@ -14,7 +14,7 @@ is-idle-requires : tie.Need-is-idle-requires
 is-idle-requires c κs = search needs
 
 returns : tie.Need-returns
-unfolding feedOf
+unfolding coreInputOf
 returns c =
     let z = c .before .before .before .before in
     simp (← z .before .before .is-finite .ensures, ← z .before .is-finite2 .ensures, z .if1 .taken, le-leb _ _ (c .before .before .if2 .taken), ← c .before .is-idle .ensures, c .if3 .taken)
@@ -23,19 +23,19 @@ summed-requires : tie.Need-summed-requires
 summed-requires c κs = search needs
 
 returns-2 : tie.Need-returns-2
-unfolding feedOf
+unfolding coreInputOf
 returns-2 c =
     let z = c .before .before .before .before .before in
     simp (← z .before .before .is-finite .ensures, ← z .before .is-finite2 .ensures, z .if1 .taken, le-leb _ _ (c .before .before .before .if2 .taken), ← c .before .before .is-idle .ensures, c .before .if3 .left) (c .summed .ensures)
 
 returns-3 : tie.Need-returns-3
-unfolding feedOf
+unfolding coreInputOf
 returns-3 c =
     let z = c .before .before in
     simp (← z .before .before .is-finite .ensures, ← z .before .is-finite2 .ensures, z .if1 .taken, lt-leb _ _ (c .if2 .left))
 
 returns-4 : tie.Need-returns-4
-unfolding feedOf
+unfolding coreInputOf
 returns-4 c = simp (← c .before .before .is-finite .ensures, ← c .before .is-finite2 .ensures, c .if1 .left)
 
 pub feed-spec : {M : Type 1} → statement M

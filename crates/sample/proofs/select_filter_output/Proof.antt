@@ -1,4 +1,4 @@
-use Rattle.sample.specs.Sample.{selectOf}
+use Rattle.sample.specs.Sample.{selectFilterOutputOf}
 use borrow.Author.Needs.{needs}
 use Rattle.sample.proofs.select_filter_output.Statement.{statement}
 use Rattle.sample.proofs.select_filter_output.Tie as tie
@@ -13,7 +13,7 @@ mixed-requires : tie.Need-mixed-requires
 mixed-requires c κs = search needs
 
 returns : tie.Need-returns
-unfolding selectOf
+unfolding selectFilterOutputOf
 returns c =
     let z = c .before .before in
     simp (z .before .filter-mode-quiescent-level .ensures, z .of-usize .ensures, c .before .mixed .ensures)

@@ -1,4 +1,4 @@
-use Rattle.sample.specs.Sample.{summerOf}
+use Rattle.sample.specs.Sample.{summerTransferOf}
 use borrow.Author.Needs.{needs}
 use Rattle.sample.proofs.summer_transfer.Statement.{statement}
 use Rattle.sample.proofs.summer_transfer.Tie as tie
@@ -19,7 +19,7 @@ summer-resting-output-requires : tie.Need-summer-resting-output-requires
 summer-resting-output-requires c κs = search needs
 
 returns : tie.Need-returns
-unfolding summerOf
+unfolding summerTransferOf
 returns c =
     let z = c .before .before in
     simp (c .summer-resting-output .ensures, c .before .sample-curve .ensures, z .average .ensures, z .before .summer-inputs .ensures)

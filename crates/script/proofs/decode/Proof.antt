@@ -2,7 +2,7 @@ use mathlib.Core.Path.{_≡_}
 use denote.Ref.{now}
 use borrow.Author.Tests.{ne-eqb}
 use Rattle.wire.specs.Wire.{f32At}
-use Rattle.script.specs.Script.{kindOf, eventOf}
+use Rattle.script.specs.Script.{kindOf, decodeEventOf}
 use Rattle.script.proofs.Laws.{event-told, event-not}
 use borrow.Author.Needs.{needs}
 use Rattle.script.proofs.decode.Statement.{statement}
@@ -30,7 +30,7 @@ f32-at-requires-2 c κs = search needs
 told :
     (c : tie.After-byte-at4) →
     let b = now (c .before .before .before .before .before .before .args .bytes) in
-    kindOf (c .byte-at4 .result) (c .before .byte-at3 .result) (f32At b 4) (f32At b 8) ≡ eventOf b
+    kindOf (c .byte-at4 .result) (c .before .byte-at3 .result) (f32At b 4) (f32At b 8) ≡ decodeEventOf b
 told c =
     let z = c .before .before in
     let y = z .before in

@@ -1,4 +1,4 @@
-use Rattle.sid_filter.specs.Calls.{positionedOf}
+use Rattle.sid_filter.specs.Calls.{loadPositionCallOf}
 use borrow.Author.Needs.{needs}
 use Rattle.sid_filter.proofs.load_position.Statement.{statement}
 use Rattle.sid_filter.proofs.load_position.Tie as tie
@@ -16,7 +16,7 @@ position-of-requires : tie.Need-position-of-requires
 position-of-requires c κs = search needs
 
 returns : tie.Need-returns
-unfolding positionedOf
+unfolding loadPositionCallOf
 returns c = simp (c .position-of .ensures, c .before .load-position .ensures, c .before .before .unless .ensures, c .before .before .before .is-finite .ensures)
 
 pub load-position-spec : {M : Type 1} → statement M

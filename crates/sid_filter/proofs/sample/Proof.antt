@@ -1,4 +1,4 @@
-use Rattle.sid_filter.specs.Calls.{sampledOf, sampleAnswerOf}
+use Rattle.sid_filter.specs.Calls.{sampleCallOf, sampleAnswerOf}
 use borrow.Author.Needs.{needs}
 use Rattle.sid_filter.proofs.sample.Statement.{statement}
 use Rattle.sid_filter.proofs.sample.Tie as tie
@@ -40,7 +40,7 @@ value-of-requires : tie.Need-value-of-requires
 value-of-requires c κs = search needs
 
 returns : tie.Need-returns
-unfolding sampledOf sampleAnswerOf
+unfolding sampleCallOf sampleAnswerOf
 returns c =
     let y = c .before .before .before .before in
     let z = y .before .before .before in

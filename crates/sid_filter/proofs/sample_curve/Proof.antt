@@ -1,4 +1,4 @@
-use Rattle.sid_filter.specs.Calls.{curveSampledOf, sampleCurveAnswerOf}
+use Rattle.sid_filter.specs.Calls.{sampleCurveCallOf, sampleCurveAnswerOf}
 use borrow.Author.Needs.{needs}
 use Rattle.sid_filter.proofs.sample_curve.Statement.{statement}
 use Rattle.sid_filter.proofs.sample_curve.Tie as tie
@@ -37,7 +37,7 @@ value-of-requires : tie.Need-value-of-requires
 value-of-requires c κs = search needs
 
 returns : tie.Need-returns
-unfolding curveSampledOf sampleCurveAnswerOf
+unfolding sampleCurveCallOf sampleCurveAnswerOf
 returns c =
     let y = c .before .before .before .before in
     let z = y .before .before .before in

@@ -1,4 +1,4 @@
-use Rattle.transfers.specs.Transfers.{mixerOf}
+use Rattle.transfers.specs.Transfers.{mixerTransferOf}
 use borrow.Author.Needs.{needs}
 use Rattle.transfers.proofs.mixer_transfer.Statement.{statement}
 use Rattle.transfers.proofs.mixer_transfer.Tie as tie
@@ -10,7 +10,7 @@ sample-curve-requires : tie.Need-sample-curve-requires
 sample-curve-requires c κs = search needs
 
 returns : tie.Need-returns
-unfolding mixerOf
+unfolding mixerTransferOf
 returns c = simp (c .sample-curve .ensures, c .before .mixer-average .ensures)
 
 pub mixer-transfer-spec : {M : Type 1} → statement M

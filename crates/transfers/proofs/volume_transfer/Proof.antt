@@ -1,4 +1,4 @@
-use Rattle.transfers.specs.Transfers.{volumeOf}
+use Rattle.transfers.specs.Transfers.{volumeTransferOf}
 use borrow.Author.Needs.{needs}
 use Rattle.transfers.proofs.volume_transfer.Statement.{statement}
 use Rattle.transfers.proofs.volume_transfer.Tie as tie
@@ -7,7 +7,7 @@ sample-curve-requires : tie.Need-sample-curve-requires
 sample-curve-requires c κs = search needs
 
 returns : tie.Need-returns
-unfolding volumeOf
+unfolding volumeTransferOf
 returns c = simp (c .sample-curve .ensures)
 
 pub volume-transfer-spec : {M : Type 1} → statement M

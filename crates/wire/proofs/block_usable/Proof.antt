@@ -5,8 +5,8 @@ use native.Mathlib.Omega.{arith}
 use native.Mathlib.Numerals.{add-one}
 use borrow.Author.Tests.{le-leb, lt-leb}
 use borrow.Author.Needs.{needs}
-use Rattle.wire.specs.Wire.{usable}
-use Rattle.wire.specs.First.{usableEntry, every, blockUsable}
+use Rattle.wire.specs.Wire.{usableOf}
+use Rattle.wire.specs.First.{usableEntry, every, blockUsableOf}
 use Rattle.wire.proofs.block_usable.Statement.{statement}
 use Rattle.wire.proofs.block_usable.Tie as tie
 
@@ -17,7 +17,7 @@ abbrev μ-loop : tie.MeasureT-loop
 μ-loop s p left all₀ j₀ all j = 64 - j
 
 returns : tie.Need-returns Inv-loop μ-loop
-unfolding blockUsable
+unfolding blockUsableOf
 returns c = rw (lt-leb _ _ (c .if1 .taken))
 
 loop-holds : tie.Need-loop-holds Inv-loop μ-loop
@@ -47,7 +47,7 @@ unfolding every usableEntry
 loop-again c = (search needs, rw (add-one, c .before .before .before .loop .inv .1, c .usable .ensures, c .before .word .ensures))
 
 returns-2 : tie.Need-returns-2 Inv-loop μ-loop
-unfolding blockUsable
+unfolding blockUsableOf
 returns-2 c = let e : c .before .loop .j ≡ 64 = omega arith in rw (le-leb _ _ (c .before .before .if1 .left)) (rw e at (c .before .loop .inv .1))
 
 pub block-usable-spec : {M : Type 1} → statement M

@@ -6,7 +6,7 @@ use native.Mathlib.Omega.{arith}
 use denote.Ref.{now}
 use borrow.Author.Count.{below-none, below-more}
 use borrow.Author.Needs.{needs}
-use Rattle.wire.specs.Wire.{usable}
+use Rattle.wire.specs.Wire.{usableOf}
 use Rattle.wire.specs.First.{usableEntry}
 use Rattle.wire.proofs.First.{first-is, block-fits, block-more}
 use Rattle.wire.proofs.scan.Statement.{statement}
@@ -74,7 +74,7 @@ loop-again-2 : tie.Need-loop-again-2 Inv-loop μ-loop
 unfolding usableEntry
 loop-again-2 c =
     let z = c .before .before .before .before .before .before in
-    (search needs, below-more _ _ (z .loop .inv .1) (ap usable (sym (c .before .before .word .ensures)) ∙ sym (c .before .usable .ensures) ∙ c .if2 .taken))
+    (search needs, below-more _ _ (z .loop .inv .1) (ap usableOf (sym (c .before .before .word .ensures)) ∙ sym (c .before .usable .ensures) ∙ c .if2 .taken))
 
 returns : tie.Need-returns Inv-loop μ-loop
 unfolding usableEntry
@@ -82,7 +82,7 @@ returns c =
     let z = c .before .before .before .before .before .before in
     let a = z .before .before .args in
     sym (first-is (usableEntry (now (a .s)) (a .from)) (a .n) 0 (z .loop .i) (search needs) (search needs) (λ k _. z .loop .inv .1 k)
-    (λ _. ap usable (sym (c .before .before .word .ensures)) ∙ sym (c .before .usable .ensures) ∙ c .if2 .left))
+    (λ _. ap usableOf (sym (c .before .before .word .ensures)) ∙ sym (c .before .usable .ensures) ∙ c .if2 .left))
 
 returns-2 : tie.Need-returns-2 Inv-loop μ-loop
 returns-2 c =

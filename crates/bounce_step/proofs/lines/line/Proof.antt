@@ -1,5 +1,5 @@
 use borrow.Author.Needs.{needs}
-use Rattle.bounce_step.specs.Lines.{lineOf}
+use Rattle.bounce_step.specs.Lines.{scriptLineOf}
 use Rattle.bounce_step.proofs.Laws.{grown-then}
 use Rattle.bounce_step.proofs.lines.line.Statement.{statement}
 use Rattle.bounce_step.proofs.lines.line.Tie as tie
@@ -29,7 +29,7 @@ same-length : tie.Need-same-length
 same-length c = search needs
 
 returns : tie.Need-returns
-unfolding lineOf
+unfolding scriptLineOf
 returns c =
     let first = c .before .before .before .before .before .before .before .before .before .before .before .before .before .before .before .before .before .before .push .ensures in
     let second = c .before .before .before .before .before .before .before .before .before .before .before .push2 .ensures in
@@ -67,7 +67,7 @@ same-length-2 : tie.Need-same-length-2
 same-length-2 c = search needs
 
 returns-2 : tie.Need-returns-2
-unfolding lineOf
+unfolding scriptLineOf
 returns-2 c =
     let first = c .before .before .before .before .before .before .before .before .before .before .before .before .before .before .before .before .before .before .before .before .before .before .before .before .before .before .before .push .ensures in
     let second = c .before .before .before .before .before .before .before .before .before .before .before .before .before .before .before .before .before .before .before .before .push4 .ensures in

@@ -1,11 +1,11 @@
 use mir.Syntax.{w16}
 use mir.ValLaws.{toZ-ofZ}
-use Rattle.control.specs.Block.{validRegisters}
+use Rattle.control.specs.Block.{validRegistersOf}
 use Rattle.control.proofs.FilterRegisters.is_valid.Statement.{statement}
 use Rattle.control.proofs.FilterRegisters.is_valid.Tie as tie
 
 returns : tie.Need-returns
-unfolding validRegisters
+unfolding validRegistersOf
 returns c =
     let d = c .before .before .before .before in
     let z = d .before .before .before .before .before .before in

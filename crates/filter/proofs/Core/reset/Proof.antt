@@ -1,4 +1,4 @@
-use Rattle.filter.specs.Core.{resetOf}
+use Rattle.filter.specs.Core.{coreResetOf}
 use borrow.Author.Needs.{needs}
 use Rattle.filter.proofs.Core.reset.Statement.{statement}
 use Rattle.filter.proofs.Core.reset.Tie as tie
@@ -19,7 +19,7 @@ judged-requires : tie.Need-judged-requires
 judged-requires c κs = search needs
 
 returns : tie.Need-returns
-unfolding resetOf
+unfolding coreResetOf
 returns c = simp (c .judged .ensures, c .before .refreshed .ensures, c .before .before .check .ensures, c .before .before .before .routed .ensures, c .before .before .before .before .new .ensures)
 
 pub reset-spec : {M : Type 1} → statement M

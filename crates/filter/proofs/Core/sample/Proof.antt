@@ -1,4 +1,4 @@
-use Rattle.filter.specs.Core.{sampledOf}
+use Rattle.filter.specs.Core.{coreSampleOf}
 use borrow.Author.Needs.{needs}
 use Rattle.filter.proofs.Core.sample.Statement.{statement}
 use Rattle.filter.proofs.Core.sample.Tie as tie
@@ -19,7 +19,7 @@ after-requires : tie.Need-after-requires
 after-requires c κs = search needs
 
 returns : tie.Need-returns
-unfolding sampledOf
+unfolding coreSampleOf
 returns c =
     let z = c .before .before .before .before .before .before .before .before in
     simp (c .after .ensures, c .before .sample .ensures, c .before .before .summer-slot .ensures, ← z .before .before .judge-core .ensures, ← z .before .is-done .ensures, z .if1 .taken)
@@ -28,7 +28,7 @@ quiet-requires : tie.Need-quiet-requires
 quiet-requires c κs = search needs
 
 returns-2 : tie.Need-returns-2
-unfolding sampledOf
+unfolding coreSampleOf
 returns-2 c = simp (c .quiet .ensures, ← c .before .before .before .judge-core .ensures, ← c .before .before .is-done .ensures, c .before .if1 .left)
 
 pub sample-spec : {M : Type 1} → statement M

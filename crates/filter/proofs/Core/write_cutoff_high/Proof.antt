@@ -1,4 +1,4 @@
-use Rattle.filter.specs.Core.{highWrittenOf}
+use Rattle.filter.specs.Core.{coreWriteCutoffHighOf}
 use borrow.Author.Needs.{needs}
 use Rattle.filter.proofs.Core.write_cutoff_high.Statement.{statement}
 use Rattle.filter.proofs.Core.write_cutoff_high.Tie as tie
@@ -16,7 +16,7 @@ judged-requires : tie.Need-judged-requires
 judged-requires c κs = search needs
 
 returns : tie.Need-returns
-unfolding highWrittenOf
+unfolding coreWriteCutoffHighOf
 returns c = simp (c .judged .ensures, c .before .refreshed .ensures, c .before .before .judge-write .ensures, c .before .before .before .write-cutoff-high .ensures)
 
 pub write-cutoff-high-spec : {M : Type 1} → statement M

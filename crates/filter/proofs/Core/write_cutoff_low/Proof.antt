@@ -1,4 +1,4 @@
-use Rattle.filter.specs.Core.{lowWrittenOf}
+use Rattle.filter.specs.Core.{coreWriteCutoffLowOf}
 use borrow.Author.Needs.{needs}
 use Rattle.filter.proofs.Core.write_cutoff_low.Statement.{statement}
 use Rattle.filter.proofs.Core.write_cutoff_low.Tie as tie
@@ -16,7 +16,7 @@ judged-requires : tie.Need-judged-requires
 judged-requires c κs = search needs
 
 returns : tie.Need-returns
-unfolding lowWrittenOf
+unfolding coreWriteCutoffLowOf
 returns c = simp (c .judged .ensures, c .before .refreshed .ensures, c .before .before .judge-write .ensures, c .before .before .before .write-cutoff-low .ensures)
 
 pub write-cutoff-low-spec : {M : Type 1} → statement M

@@ -1,4 +1,4 @@
-use Rattle.filter.specs.Core.{modeWrittenOf}
+use Rattle.filter.specs.Core.{coreWriteModeAndVolumeOf}
 use borrow.Author.Needs.{needs}
 use Rattle.filter.proofs.Core.write_mode_and_volume.Statement.{statement}
 use Rattle.filter.proofs.Core.write_mode_and_volume.Tie as tie
@@ -19,7 +19,7 @@ judged-requires : tie.Need-judged-requires
 judged-requires c κs = search needs
 
 returns : tie.Need-returns
-unfolding modeWrittenOf
+unfolding coreWriteModeAndVolumeOf
 returns c = simp (c .judged .ensures, c .before .reselected .ensures, c .before .before .judge-write .ensures, c .before .before .before .routed .ensures, c .before .before .before .before .write-mode-and-volume .ensures)
 
 pub write-mode-and-volume-spec : {M : Type 1} → statement M

@@ -1,4 +1,4 @@
-use Rattle.filter.specs.Core.{routingWrittenOf}
+use Rattle.filter.specs.Core.{coreWriteSignalRoutingOf}
 use borrow.Author.Needs.{needs}
 use Rattle.filter.proofs.Core.write_signal_routing.Statement.{statement}
 use Rattle.filter.proofs.Core.write_signal_routing.Tie as tie
@@ -19,7 +19,7 @@ judged-requires : tie.Need-judged-requires
 judged-requires c κs = search needs
 
 returns : tie.Need-returns
-unfolding routingWrittenOf
+unfolding coreWriteSignalRoutingOf
 returns c = simp (c .judged .ensures, c .before .refreshed .ensures, c .before .before .judge-write .ensures, c .before .before .before .routed .ensures, c .before .before .before .before .write-signal-routing .ensures)
 
 pub write-signal-routing-spec : {M : Type 1} → statement M

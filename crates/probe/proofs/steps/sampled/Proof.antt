@@ -1,4 +1,4 @@
-use Rattle.probe.specs.Steps.{sampledOf}
+use Rattle.probe.specs.Steps.{freshSampleOf}
 use borrow.Author.Needs.{needs}
 use Rattle.probe.proofs.steps.sampled.Statement.{statement}
 use Rattle.probe.proofs.steps.sampled.Tie as tie
@@ -16,7 +16,7 @@ sample-requires : tie.Need-sample-requires
 sample-requires c κs = search needs
 
 returns : tie.Need-returns
-unfolding sampledOf
+unfolding freshSampleOf
 returns c = simp (← c .before .before .before .before .update .ensures, ← c .before .before .before .controls-of .ensures, ← c .before .summer-slot .ensures) (c .sample .ensures)
 
 pub sampled-spec : {M : Type 1} → statement M
