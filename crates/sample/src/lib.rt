@@ -109,7 +109,13 @@ pub enum CoreInput {
 }
 
 // The summer's output above a rest that is handed in, each entry judged as it is read.
-fn summed(curves: &[u8], slot: u8, topology: MixingTopology, rest: Read, input_sum: f32) -> CoreInput
+fn summed(
+    curves: &[u8],
+    slot: u8,
+    topology: MixingTopology,
+    rest: Read,
+    input_sum: f32,
+) -> CoreInput
     ensures { λ r. ⌜ r ≡ K.summedOf (now (curves .entry)) slot topology rest «input_sum» ⌝ }
 {
     let curve = curves::read_curve(curves, slot, average(topology, input_sum));
