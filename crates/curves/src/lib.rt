@@ -218,13 +218,13 @@ pub fn read_curve(curves: &[u8], curve: u8, input: f32) -> Read
 // ---- the summer at rest
 
 // Refuses at the first unusable entry that `summer_resting_output` reads.
-pub fn judge_summer_resting_output(bundle: &[u8], count: usize) -> Answer
+pub fn judge_summer_resting_output(bundle: &[u8], count: u8) -> Answer
     ensures { λ r. ⌜ r ≡ judgePlacesOf Bundle (now (bundle .entry)) (summerRestingPlacesOf count) ⌝ }
 {
     if 2 <= count {
         return judge_sample(
             bundle,
-            floats::of_usize(count),
+            floats::of_u16(count as u16),
             response::filter_mode_quiescent_level(),
         );
     }
@@ -232,13 +232,13 @@ pub fn judge_summer_resting_output(bundle: &[u8], count: usize) -> Answer
 }
 
 // The summer's output at rest, for a count of inputs with the two that are always there.
-pub fn summer_resting_output(bundle: &[u8], count: usize) -> f32
+pub fn summer_resting_output(bundle: &[u8], count: u8) -> f32
     ensures { λ r. ⌜ r ≡ summerRestingOutputOf (now (bundle .entry)) count ⌝ }
 {
     if 2 <= count {
         return sample(
             bundle,
-            floats::of_usize(count),
+            floats::of_u16(count as u16),
             response::filter_mode_quiescent_level(),
         );
     }
@@ -246,13 +246,13 @@ pub fn summer_resting_output(bundle: &[u8], count: usize) -> f32
 }
 
 // `summer_resting_output`, each entry judged as it is read. It depends on the bundle and the count alone, so a run may keep it.
-pub fn read_resting_output(bundle: &[u8], count: usize) -> Read
+pub fn read_resting_output(bundle: &[u8], count: u8) -> Read
     ensures { λ r. ⌜ r ≡ readOf (judgePlacesOf Bundle (now (bundle .entry)) (summerRestingPlacesOf count)) (summerRestingOutputOf (now (bundle .entry)) count) ⌝ }
 {
     if 2 <= count {
         return read_sample(
             bundle,
-            floats::of_usize(count),
+            floats::of_u16(count as u16),
             response::filter_mode_quiescent_level(),
         );
     }
