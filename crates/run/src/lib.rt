@@ -518,7 +518,7 @@ pub fn run(
     ensures { λ _. ⌜ now (output .exit) ≡ R.runOf (now (bundle .entry)) (now (curves .entry)) (now (state .entry)) (now (script .entry)) (now (output .entry)) .output ⌝ }
 {
     let lent = filter::judge_lent(bundle, curves);
-    let control::DecodedEvent::Valid(from) = State::decode(state) else {
+    let control::DecodedState::Valid(from) = State::decode(state) else {
         return turned_back(answers::first(lent, Answer::Argument));
     };
     let judged = answers::first(lent, judge_script(script, output.len()));
