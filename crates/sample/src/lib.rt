@@ -12,8 +12,8 @@ use integrator::Coefficients;
 use integrator::FilterOutputs;
 use integrator::IntegratorState;
 use integrator::Substeps;
-use refresh::CoreControls;
 use mixing::MixingTopology;
+use refresh::CoreControls;
 use response::TablePosition;
 
 // What a sample gives: the core's three outputs and what the mode selects of them.
