@@ -148,7 +148,7 @@ unfoldable pub refuses : Sampled → Bool
 refuses (Taken outputs i) = true
 refuses (Refused answer) = not (isDoneOf answer)
 
-taken-refuses : (c : ControlCache) (count mode : ℕ) (moved : Substeps) → refuses (takenOf c count mode moved) ≡ true
+pub taken-refuses : (c : ControlCache) (count mode : ℕ) (moved : Substeps) → refuses (takenOf c count mode moved) ≡ true
 unfolding takenOf refuses
 taken-refuses c count mode NotFinite = refl
 taken-refuses c count mode (Settled a) = go (finite (selectFilterOutputOf c count mode (a .outputs))) _ _

@@ -45,23 +45,28 @@ abbrev pub plainTaken : State → Sampled → Plain
 plainTaken s (Taken outputs i) = record { answer = Done; sample = outputs ∷ []; state = record { registers = s .registers; integrator = i } }
 plainTaken s (Refused answer) = refusedAt s answer
 
--- A sample: 5, 9, then every 3, of the controls and of the sample, then every 6. It takes the block's floats and the event's.
-unfoldable pub plainSample : Lent → State → Float → Float → Plain
-plainSample l s sum energy =
-    let bundle = l .bundle in
-    let mode = s .registers .mode in
-    let topology = topologyOf (s .registers .routing) mode in
-    let slot = summerSlotOf topology in
-    let controls = controlsOf bundle s in
-    let judged =
+-- A sample: 5, 9, then every 3, of the controls and of the sample, then 6 of the controls; and last its own 6.
+abbrev pub judgePlain : Lent → State → Float → Float → Answer
+judgePlain l s sum energy =
+    let topology = topologyOf (s .registers .routing) (s .registers .mode) in
     firstOf (judgeInputOf sum energy)
     (firstOf (judgeMixerCountOf topology)
-    (firstOf (judgeEntriesOf bundle s)
-    (firstOf (judgeReadsOf bundle (l .curves) slot topology (s .integrator) sum)
-    (judgeDomainOf bundle s)))) in
-    cond (isDoneOf judged)
-    (plainTaken s (takenOf controls (topology .«filter_output_count») mode (advanceFilterCoreOf bundle (l .curves) slot topology (controls .filter) (s .integrator) sum energy)))
-    (refusedAt s judged)
+    (firstOf (judgeEntriesOf (l .bundle) s)
+    (firstOf (judgeReadsOf (l .bundle) (l .curves) (summerSlotOf topology) topology (s .integrator) sum)
+    (judgeDomainOf (l .bundle) s))))
+
+-- It takes the block's floats and the event's, with topology and controls worked out afresh.
+abbrev pub plainSampled : Lent → State → Float → Float → Sampled
+plainSampled l s sum energy =
+    let topology = topologyOf (s .registers .routing) (s .registers .mode) in
+    let controls = controlsOf (l .bundle) s in
+    takenOf controls (topology .«filter_output_count») (s .registers .mode)
+    (advanceFilterCoreOf (l .bundle) (l .curves) (summerSlotOf topology) topology (controls .filter) (s .integrator) sum energy)
+
+unfoldable pub plainSample : Lent → State → Float → Float → Plain
+plainSample l s sum energy =
+    let judged = judgePlain l s sum energy in
+    cond (isDoneOf judged) (plainTaken s (plainSampled l s sum energy)) (refusedAt s judged)
 
 abbrev pub plainStep : Lent → State → Event → Plain
 plainStep l s (CutoffLow value) = plainChange l s (writeCutoffLowOf s value)
