@@ -15,7 +15,8 @@ use Rattle.answers.specs.declared.Answer.the-variants.{Done, CurvesLength, Argu
 use Rattle.answers.specs.Answers.{firstOf, unlessOf, isDoneOf}
 use Rattle.answers.proofs.Laws.{done-is, first-assoc}
 use Rattle.wire.specs.Wire.{Bytes, bytesOf, rowBytes}
-use Rattle.wire.proofs.Laws.{both, length-bytesOf}
+use Rattle.floats.proofs.Laws.{both}
+use Rattle.wire.proofs.Laws.{length-bytesOf}
 use Rattle.bundle.specs.Opening.{checkOf}
 use Rattle.control.specs.declared.State.{State}
 use Rattle.control.specs.declared.DecodedState.{DecodedState}

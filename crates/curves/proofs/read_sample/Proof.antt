@@ -1,13 +1,8 @@
 use mathlib.Core.Path.{sym, _∙_}
-use mathlib.Core.List.{[], _∷_}
-use Prim.Native.Nat.{_≤_, _+_}
-use native.Mathlib.Omega.{arith}
 use denote.Ref.{now}
-use Rattle.answers.specs.declared.Buffer.the-variants.{Bundle}
-use Rattle.bundle.proofs.Laws.{judge-append}
 use Rattle.bundle.proofs.Reading.{first-refused, second-refused, both-read}
 use Rattle.response.specs.Levels.{interpolateOf}
-use Rattle.curves.specs.Sampling.{tablePlace, sampleOf, sampleAtOf, samplePlacesOf, cornersOf}
+use Rattle.curves.specs.Sampling.{sampleOf, sampleAtOf, samplePlacesOf}
 use Rattle.curves.proofs.Laws.{load-lower, load-upper, input-lower, input-upper, corners-apart}
 use borrow.Author.Needs.{needs}
 use Rattle.curves.proofs.read_sample.Statement.{statement}
