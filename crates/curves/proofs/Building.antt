@@ -18,14 +18,14 @@ use Rattle.bundle.specs.Layout.{bundleLength, analogueSurface}
 use Rattle.bundle.specs.Opening.{checkOf, judgeSectionOf}
 use Rattle.bundle.proofs.Accepted.{check-done, section-done}
 use Rattle.curves.specs.declared.AnalogueLoadPosition.{AnalogueLoadPosition}
-use Rattle.curves.specs.Sampling.{loadPositionOf, tablePlace}
+use Rattle.curves.specs.Sampling.{lastBase, loadPositionOf, tablePlace}
 use Rattle.curves.specs.Building.{loadCurveOf, curveLoadOf, curveEntryOf, curveLength, curvesLength, buildCurveOf, judgeLengthOf, judgeBuildOf}
 use Rattle.curves.specs.Inner.{rowLength, tableRowOf, UsableRow, blendOf, blendRowsOf, Buildable}
 use Rattle.curves.proofs.Laws.{load-lower, load-upper}
 
 -- ---- the row of a load
 
-module _ (bundle : List ℕ) (long : length bundle ≡ bundleLength) (base : ℕ) (h : base ≤ 294912) where
+module _ (bundle : List ℕ) (long : length bundle ≡ bundleLength) (base : ℕ) (h : base ≤ lastBase) where
   -- word `code` of the row is word base + code of the surface
   row-word : (code : ℕ) → code ≤ 2047 → u32At (tableRowOf bundle base) (4 * code) ≡ u32At bundle (tablePlace (base + code))
   unfolding tableRowOf
