@@ -1,6 +1,6 @@
 -- Answers taken one after the other. The cases of the enum are gone through once, in `done-is`.
 use mathlib.Core.Path.{_≡_, refl, ap}
-use mathlib.Core.Bool.{Bool, true, false, _&&_}
+use mathlib.Core.Bool.{Bool, true, false}
 use Rattle.answers.specs.declared.Answer.{Answer}
 use Rattle.answers.specs.declared.Answer.the-variants.{Done, BundleLength, Header, Entry, CurvesLength, InputNotFinite, Domain, Script, OutputLength, MixerInputs, Argument}
 use Rattle.answers.specs.Answers.{isDoneOf, firstOf, unlessOf}
@@ -20,14 +20,6 @@ done-is MixerInputs h = cc
 done-is Argument h = cc
 
 -- The first of two is done where both are.
-pub is-done-first : (a b : Answer) → isDoneOf (firstOf a b) ≡ isDoneOf a && isDoneOf b
-is-done-first a b = go (isDoneOf a) refl
-  where
-    go : (d : Bool) → isDoneOf a ≡ d → isDoneOf (firstOf a b) ≡ d && isDoneOf b
-    go true h = simp h
-    go false h = simp h
-
--- The same, of the answers themselves.
 pub first-done : (a b : Answer) → firstOf a b ≡ Done → (a ≡ Done) × (b ≡ Done)
 first-done a b e = go (isDoneOf a) refl
   where

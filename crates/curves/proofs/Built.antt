@@ -16,7 +16,7 @@ use Rattle.wire.proofs.Floats.{f32At-rows}
 use Rattle.bundle.specs.Opening.{entryAt, judgePlacesOf, Accepted}
 use Rattle.bundle.proofs.Accepted.{section-done, surface-usable}
 use Rattle.bundle.specs.Layout.{analogueSurface}
-use Rattle.curves.specs.Sampling.{loadPositionOf, inputPositionOf, tablePlace, cornersOf, samplePlacesOf, curvePlace}
+use Rattle.curves.specs.Sampling.{lastInput, lastBase, loadPositionOf, inputPositionOf, tablePlace, cornersOf, samplePlacesOf, curvePlace}
 use Rattle.curves.specs.Building.{loadCurveOf, curveLoadOf, volumeEntryOf, finishedOf, curveEntryOf, curveLength, curvesLength, buildCurveOf, buildCurvesOf}
 use Rattle.curves.proofs.Laws.{load-lower, load-upper, input-lower, input-upper}
 use Rattle.curves.proofs.Building.{length-curve}
@@ -36,7 +36,8 @@ module _ (bundle : List ℕ) where
     unfolding curveEntryOf finishedOf volumeEntryOf loadCurveOf
     entry-fits k = go (ltb curve 15)
       where
-        go : (b : Bool) → T (fits binary32 (cond b (loadCurveOf bundle (loadPositionOf (curveLoadOf curve)) k) (volumeEntryOf (curve - 15) (loadCurveOf bundle (loadPositionOf (curveLoadOf curve)) k))))
+        go : (b : Bool)
+            → T (fits binary32 (cond b (loadCurveOf bundle (loadPositionOf (curveLoadOf curve)) k) (volumeEntryOf (curve - 15) (loadCurveOf bundle (loadPositionOf (curveLoadOf curve)) k))))
         go true = add-fits binary32 _ _
         go false = mul-fits binary32 _ _
 
@@ -50,7 +51,7 @@ module _ (bundle : List ℕ) where
 
 -- On an accepted bundle no sample of the surface is refused.
 module _ (bundle : List ℕ) (a : Accepted bundle) where
-  corner : (base index : ℕ) → base ≤ 294912 → index ≤ 2047 → usableAt bundle (tablePlace (base + index)) ≡ true
+  corner : (base index : ℕ) → base ≤ lastBase → index ≤ lastInput → usableAt bundle (tablePlace (base + index)) ≡ true
   corner base index h l = section-done bundle analogueSurface (surface-usable bundle a) (base + index) (omega arith)
 
   pub sample-accepted : (conductance input : Float) → judgePlacesOf Bundle bundle (samplePlacesOf conductance input) ≡ Done

@@ -1,4 +1,4 @@
--- The positions lie in their tables, whatever the conductance and the input are, a NaN included. Where a base is at most 294,912 its load is at most 144.
+-- The positions lie in their tables, whatever the conductance and the input are, a NaN included.
 use Prim.Native.Nat.{ℕ, _+_, _*_, _≤_}
 use mathlib.Core.Path.{_≡_, refl}
 use native.Mathlib.Omega.{arith}
@@ -12,23 +12,23 @@ use Rattle.bundle.specs.Opening.{judgePlacesOf}
 use Rattle.bundle.proofs.Laws.{judge-append}
 use Rattle.response.specs.declared.TablePosition.{TablePosition}
 use Rattle.curves.specs.declared.AnalogueLoadPosition.{AnalogueLoadPosition}
-use Rattle.curves.specs.Sampling.{loadPositionOf, inputPositionOf, tablePlace, cornersOf, curvePlace}
+use Rattle.curves.specs.Sampling.{lastInput, lastBase, loadPositionOf, inputPositionOf, tablePlace, cornersOf, curvePlace}
 
 module _ (conductance : Float) where
-  pub load-lower : loadPositionOf conductance .«lower_base» ≤ 294912
+  pub load-lower : loadPositionOf conductance .«lower_base» ≤ lastBase
   unfolding loadPositionOf
   load-lower = omega (arith, load-index conductance)
 
-  pub load-upper : loadPositionOf conductance .«upper_base» ≤ 294912
+  pub load-upper : loadPositionOf conductance .«upper_base» ≤ lastBase
   unfolding loadPositionOf
   load-upper = omega (arith, load-index conductance)
 
 module _ (input : Float) where
-  pub input-lower : inputPositionOf input .lower ≤ 2047
+  pub input-lower : inputPositionOf input .lower ≤ lastInput
   unfolding inputPositionOf
   input-lower = curve-index input
 
-  pub input-upper : inputPositionOf input .upper ≤ 2047
+  pub input-upper : inputPositionOf input .upper ≤ lastInput
   unfolding inputPositionOf
   input-upper = omega (arith, curve-index input)
 

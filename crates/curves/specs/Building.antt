@@ -16,12 +16,12 @@ use Rattle.response.specs.Levels.{interpolateOf, volumeDacConductanceCodeOf}
 use Rattle.bundle.specs.Layout.{analogueSurface}
 use Rattle.bundle.specs.Opening.{checkOf, judgeSectionOf}
 use Rattle.curves.specs.declared.AnalogueLoadPosition.{AnalogueLoadPosition}
-use Rattle.curves.specs.Sampling.{loadPositionOf, tableAt}
+use Rattle.curves.specs.Sampling.{lastInput, loadPositionOf, tableAt}
 
 -- `build_load_curve`: entry k lies between the two loads' entries at k, and entry 2,048 repeats entry 2,047
 unfoldable pub loadCurveOf : List ℕ → AnalogueLoadPosition → ℕ → Float
 loadCurveOf bundle load k =
-    let code = min k 2047 in
+    let code = min k lastInput in
     interpolateOf (tableAt bundle (load .«lower_base» + code)) (tableAt bundle (load .«upper_base» + code)) (load .fraction)
 
 -- The conductance that a curve is built for. Curves 0 to 6 are the summer's, by the count of inputs, 7 to 14 the mixer's, and 15 to 30 the volume's.

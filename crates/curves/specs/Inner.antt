@@ -14,7 +14,7 @@ use Rattle.bundle.specs.declared.Read.{Read}
 use Rattle.bundle.specs.Layout.{bundleLength, analogueSurface}
 use Rattle.bundle.specs.Opening.{judgePlacesOf, judgeSectionOf}
 use Rattle.bundle.specs.Reading.{readOf}
-use Rattle.curves.specs.Sampling.{tablePlace, tableAt}
+use Rattle.curves.specs.Sampling.{lastInput, rowEntries, tablePlace, tableAt}
 use Rattle.curves.specs.Building.{finishedOf}
 
 -- ---- a part of `sample_at`
@@ -40,11 +40,11 @@ unfoldable pub tableRowOf : List ℕ → ℕ → List ℕ
 tableRowOf bundle base = take rowLength (drop (tablePlace base) bundle)
 
 abbrev pub UsableRow : List ℕ → Type 0
-UsableRow row = (code : ℕ) → code < 2048 → usableAt row (4 * code) ≡ true
+UsableRow row = (code : ℕ) → code < rowEntries → usableAt row (4 * code) ≡ true
 
 unfoldable pub blendOf : List ℕ → List ℕ → Float → ℕ → ℕ → Float
 blendOf lower upper fraction curve k =
-    let code = min k 2047 in
+    let code = min k lastInput in
     finishedOf curve (interpolateOf (f32At lower (4 * code)) (f32At upper (4 * code)) fraction)
 
 unfoldable pub blendRowsOf : List ℕ → List ℕ → Float → ℕ → List ℕ

@@ -17,15 +17,28 @@ use Rattle.curves.specs.declared.AnalogueLoadPosition.{AnalogueLoadPosit
 
 -- ---- positions
 
--- `load_position`: a conductance of 0 to 9 lies between two of the 145 loads. A base is the index of a load's first entry.
+-- The last of the 145 loads and the last of a load's 2,048 entries, each by its index; a base is the index of a load's first entry.
+abbrev pub lastLoad : ℕ
+lastLoad = 144
+
+abbrev pub lastInput : ℕ
+lastInput = 2047
+
+abbrev pub rowEntries : ℕ
+rowEntries = 2048
+
+abbrev pub lastBase : ℕ
+lastBase = 294912
+
+-- `load_position`: a conductance of 0 to 9 lies between two of the loads.
 unfoldable pub loadPositionOf : Float → AnalogueLoadPosition
 loadPositionOf conductance =
-    let at = tablePositionOf 144 (clampOf conductance (f32 0) K.SID-ANALOGUE-MAX-CONDUCTANCE ⊗ f32 0x4310_0000 ⊘ K.SID-ANALOGUE-MAX-CONDUCTANCE) in
-    record { «lower_base» = at .lower * 2048; «upper_base» = at .upper * 2048; fraction = at .fraction }
+    let at = tablePositionOf lastLoad (clampOf conductance (f32 0) K.SID-ANALOGUE-MAX-CONDUCTANCE ⊗ f32 0x4310_0000 ⊘ K.SID-ANALOGUE-MAX-CONDUCTANCE) in
+    record { «lower_base» = at .lower * rowEntries; «upper_base» = at .upper * rowEntries; fraction = at .fraction }
 
--- An input of 0 to 1 lies between two of the 2,048 entries of a load's row.
+-- An input of 0 to 1 lies between two of the entries of a load's row.
 unfoldable pub inputPositionOf : Float → TablePosition
-inputPositionOf input = tablePositionOf 2047 (clampOf input (f32 0) (f32 0x3f80_0000) ⊗ f32 0x44ff_e000)
+inputPositionOf input = tablePositionOf lastInput (clampOf input (f32 0) (f32 0x3f80_0000) ⊗ f32 0x44ff_e000)
 
 -- ---- the surface
 

@@ -1,19 +1,17 @@
 // The loaded amplifier's transfer curves: positions in the analogue surface, sampling the surface and a curve, and building the 31 curves.
 // A sampling function is total: an unusable entry counts as the float that it is, and the judging function beside it refuses it.
 ghost use mathlib.Core.Path.{_≡_};
-ghost use Prim.Native.Nat.{_+_, _*_, _≤_, _<_, min};
+ghost use Prim.Native.Nat.{_+_, _*_, _≤_, _<_};
 ghost use lib.ListN.{length};
 ghost use mathlib.Core.Bool.{true};
-ghost use lib.Ieee.{toUnsigned};
 ghost use Rattle.wire.specs.Wire.{f32At, usableAt};
 ghost use Rattle.answers.specs.declared.Buffer.the-variants.{Bundle, Curves};
-ghost use Rattle.response.specs.Position.{tablePositionOf};
 ghost use mathlib.Core.List.{[], _∷_};
 ghost use Rattle.bundle.specs.Opening.{entryAt, judgePlacesOf};
 ghost use Rattle.bundle.specs.Reading.{readOf};
 ghost use Rattle.response.specs.Levels.{interpolateOf};
 ghost use Rattle.bundle.specs.Layout.{bundleLength};
-ghost use Rattle.curves.specs.Sampling.{loadPositionOf, inputPositionOf, tablePlace, samplePlacesOf, sampleOf, curvePlace, sampleCurvePlacesOf, sampleCurveOf};
+ghost use Rattle.curves.specs.Sampling.{lastInput, lastBase, loadPositionOf, inputPositionOf, tablePlace, samplePlacesOf, sampleOf, curvePlace, sampleCurvePlacesOf, sampleCurveOf};
 ghost use Rattle.curves.specs.Sampling.{summerRestingPlacesOf, summerRestingOutputOf};
 ghost use Rattle.curves.specs.Building.{curveLoadOf, volumeEntryOf, finishedOf, curveLength, curvesLength, buildCurveOf, buildCurvesOf, judgeLengthOf, judgeBuildOf, buildOf};
 ghost use Rattle.curves.specs.Inner.{readRowOf, tableRowOf, UsableRow, blendOf, blendRowsOf, Buildable};
@@ -29,7 +27,13 @@ const CURVE_BYTES: usize = 8_196;
 
 pub const BYTES: usize = 254_076;
 
-// The bytes of a load's row in the surface: 2,048 entries of four.
+// The surface: the last of its 145 loads, the last of a load's 2,048 entries, each by its index, and the bytes of a load's row.
+const LAST_LOAD: usize = 144;
+
+const LAST_INPUT: usize = 2_047;
+
+const ROW_ENTRIES: usize = 2_048;
+
 const ROW_BYTES: usize = 8_192;
 
 // The rows of the two loads that a conductance lies between, each by the index of its first entry, and how far it lies from the lower one.
@@ -41,49 +45,33 @@ pub struct AnalogueLoadPosition {
 
 // ---- positions
 
-fn next_index(lower: usize, last: usize) -> usize
-    ensures { λ r. ⌜ r ≡ min (lower + 1) last ⌝ }
-{
-    if lower < last { lower + 1 } else { last }
-}
-
-// Between which two entries of a table a position lies.
-fn table_position(last: usize, position: f32) -> TablePosition
-    requires { ⌜ toUnsigned 64 position ≤ last × last ≤ 16777216 ⌝ }
-    ensures { λ r. ⌜ r ≡ tablePositionOf last position ⌝ }
-{
-    let lower = floats::as_usize(position);
-    TablePosition {
-        lower,
-        upper: next_index(lower, last),
-        fraction: position - floats::of_usize(lower),
-    }
-}
-
-// The loads that a conductance lies between: it is clamped to 0 to 9, and the index of a load is at most 144.
+// The loads that a conductance lies between: it is clamped to 0 to 9.
 pub fn load_position(conductance: f32) -> AnalogueLoadPosition
     ensures { λ r. ⌜ r ≡ loadPositionOf conductance ⌝ }
 {
     let most = constants::SID_ANALOGUE_MAX_CONDUCTANCE;
-    let at = table_position(144, floats::clamp(conductance, 0.0, most) * 144.0 / most);
+    let at = response::table_position(
+        LAST_LOAD,
+        floats::clamp(conductance, 0.0, most) * 144.0 / most,
+    );
     AnalogueLoadPosition {
-        lower_base: at.lower * 2048,
-        upper_base: at.upper * 2048,
+        lower_base: at.lower * ROW_ENTRIES,
+        upper_base: at.upper * ROW_ENTRIES,
         fraction: at.fraction,
     }
 }
 
-// The entries of a row that an input lies between: it is clamped to 0 to 1, and the lower index is at most 2,047.
+// The entries of a row that an input lies between: it is clamped to 0 to 1.
 fn input_position(input: f32) -> TablePosition
     ensures { λ r. ⌜ r ≡ inputPositionOf input ⌝ }
 {
-    table_position(2047, floats::clamp(input, 0.0, 1.0) * 2047.0)
+    response::table_position(LAST_INPUT, floats::clamp(input, 0.0, 1.0) * 2047.0)
 }
 
 // ---- the surface
 
 fn table_place(base: usize, index: usize) -> u32
-    requires { ⌜ (base ≤ 294912) × (index ≤ 2047) ⌝ }
+    requires { ⌜ (base ≤ lastBase) × (index ≤ lastInput) ⌝ }
     ensures { λ r. ⌜ r ≡ tablePlace (base + index) ⌝ }
 {
     bundle::ANALOGUE_SURFACE_OFFSET + 4 * ((base + index) as u32)
@@ -146,7 +134,7 @@ pub fn sample(bundle: &[u8], conductance: f32, input: f32) -> f32
 
 // A load's row at an input, each entry judged as it is read.
 fn read_row(bundle: &[u8], base: usize, at: TablePosition) -> Read
-    requires { ⌜ (base ≤ 294912) × (at .lower ≤ 2047) × (at .upper ≤ 2047) ⌝ }
+    requires { ⌜ (base ≤ lastBase) × (at .lower ≤ lastInput) × (at .upper ≤ lastInput) ⌝ }
     ensures { λ r. ⌜ r ≡ readRowOf (now (bundle .entry)) base at ⌝ }
 {
     let lower = table_place(base, at.lower);
@@ -302,7 +290,7 @@ fn finished(curve: u8, entry: f32) -> f32
 
 // The row of a load, by the index of its first entry.
 fn table_row(bundle: &[u8], base: usize) -> &[u8]
-    requires { ⌜ (base ≤ 294912) × (length (now bundle) ≡ bundleLength) ⌝ }
+    requires { ⌜ (base ≤ lastBase) × (length (now bundle) ≡ bundleLength) ⌝ }
     ensures { λ r. ⌜ now r ≡ tableRowOf (now (bundle .entry)) base ⌝ }
 {
     let from = (bundle::ANALOGUE_SURFACE_OFFSET as usize) + 4 * base;
@@ -312,7 +300,7 @@ fn table_row(bundle: &[u8], base: usize) -> &[u8]
 
 // An entry of a row. It is usable, so its bits are no NaN's, and the loop over a row has no test in it.
 fn row_entry(row: &[u8], code: usize) -> f32
-    requires { ⌜ (code ≤ 2047) × (usableAt (now row) (4 * code) ≡ true) ⌝ }
+    requires { ⌜ (code ≤ lastInput) × (usableAt (now row) (4 * code) ≡ true) ⌝ }
     ensures { λ r. ⌜ r ≡ f32At (now (row .entry)) (4 * code) ⌝ }
 {
     f32::from_bits(wire::u32_at(row, 4 * code))
@@ -320,7 +308,7 @@ fn row_entry(row: &[u8], code: usize) -> f32
 
 // An entry of a curve, from the rows of its two loads.
 fn blend(lower: &[u8], upper: &[u8], fraction: f32, curve: u8, code: usize) -> f32
-    requires { ⌜ (code ≤ 2047) × UsableRow (now lower) × UsableRow (now upper) ⌝ }
+    requires { ⌜ (code ≤ lastInput) × UsableRow (now lower) × UsableRow (now upper) ⌝ }
     ensures { λ r. ⌜ r ≡ blendOf (now (lower .entry)) (now (upper .entry)) fraction curve code ⌝ }
 {
     let entry = response::interpolate(row_entry(lower, code), row_entry(upper, code), fraction);
@@ -333,11 +321,15 @@ fn blend_rows(row: &mut [u8], lower: &[u8], upper: &[u8], fraction: f32, curve: 
     ensures { λ _. ⌜ now (row .exit) ≡ blendRowsOf (now (lower .entry)) (now (upper .entry)) fraction curve ⌝ }
 {
     let mut k = 0;
-    while k < 2048 {
+    while k < ROW_ENTRIES {
         wire::put_f32(row, 4 * k, blend(lower, upper, fraction, curve, k));
         k += 1;
     }
-    wire::put_f32(row, ROW_BYTES, blend(lower, upper, fraction, curve, 2047));
+    wire::put_f32(
+        row,
+        ROW_BYTES,
+        blend(lower, upper, fraction, curve, LAST_INPUT),
+    );
 }
 
 // One curve, into its 8,196 bytes.

@@ -14,7 +14,8 @@ use Rattle.floats.specs.Arithmetic.{_⊕_, _⊖_, _⊗_, f32}
 use Rattle.floats.proofs.Sized.{Sized, sized-finite, sized-more, literal-sized, ofInt-sized, quotient-sized, cond-sized, add-sized, sub-sized, mul-sized}
 use Rattle.response.specs.Bits.{bit}
 use Rattle.response.specs.Levels.{addIf, interpolateOf, cutoffPositionOf, filterOutputCommonModeOf}
-use Rattle.wire.proofs.Laws.{le-or-lt, both}
+use Rattle.floats.proofs.Laws.{both}
+use Rattle.wire.proofs.Laws.{le-or-lt}
 use Rattle.control.specs.declared.FilterRegisters.{FilterRegisters}
 use Rattle.controls.specs.Judging.{finiteOutputOf}
 use Rattle.controls.specs.Controls.{refreshRegisterOutputStateOf, highPassLowCouplingOf, bandPassLowCouplingOf, resonancePartOf, feedbackScaleOf, modulationScaleOf, liftPositionOf, resonanceOutputGainOf}

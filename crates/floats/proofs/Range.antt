@@ -465,13 +465,3 @@ pub loading-index : (c : ℕ) → c ≤ 2047 → toUnsigned 64 (div binary32 (mu
 unfolding ofBits
 loading-index =
     count-index-law binary32 (lit< tt) (lit≤ tt) (lit≤ tt) (literal (ofBits binary32 0x41f8_0000) 31 (refl, refl)) (literal (ofBits binary32 0x44ff_e000) 2047 (refl, refl))
-
--- for any 16 bits the index is still a float exactly
-pub loading-any : (c : ℕ) → c < 65536 → toUnsigned 64 (div binary32 (mul binary32 (ofInt binary32 (pos c)) (ofBits binary32 0x41f8_0000)) (ofBits binary32 0x44ff_e000)) ≤ 16777216
-unfolding ofBits
-loading-any c h =
-    let times : c * 31 ≤ 2 ^ 24 = omega arith in
-    let parts : c * 31 ≤ 8196 * 2047 = omega arith in
-    let x : Upto (mul binary32 (ofInt binary32 (pos c)) (ofBits binary32 0x41f8_0000)) (c * 31) =
-    mul-upto binary32 times (whole-upto (ofInt-whole binary32 c (omega arith))) (literal (ofBits binary32 0x41f8_0000) 31 (refl, refl)) in
-    le-trans (upto-index (div-upto binary32 {j = 8196} {k = 2047} (lit≤ tt) (lit< tt) (upto-more parts x) (literal (ofBits binary32 0x44ff_e000) 2047 (refl, refl))) refl) (lit≤ tt)

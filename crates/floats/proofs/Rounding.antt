@@ -2,7 +2,8 @@
 use mathlib.Core.Path.{_≡_, refl, sym, ap, _∙_, subst}
 use mathlib.Core.Bool.{Bool, true, false, not, _&&_, cond, true≢false}
 use Prim.Native.Nat.{ℕ, zero, suc, _+_, _-_, _*_, _/_, _^_, _≤_, _<_}
-use native.Mathlib.Nat.{mul-le-mul-right, zero-mul, lt-irrefl, mul-one, mul-left-comm, two-mul, add-mul, pow-succ', add-div-right, div-div-eq-div-mul, mul-comm, mul-assoc, mul-pos}
+use native.Mathlib.Nat.{zero-div, div-one, div-le-self, mul-le-mul-right, zero-mul, lt-irrefl, mul-one, mul-left-comm, two-mul, add-mul, pow-succ', add-div-right, div-div-eq-div-mul}
+use native.Mathlib.Nat.{mul-comm, mul-assoc, mul-pos}
 use native.Mathlib.Nat.{lt-of-lt-of-le, not-le-of-lt, le-of-eq, le-trans, div-lt-iff-lt-mul}
 use native.Mathlib.Omega.{arith}
 use borrow.Author.Tests.{ltb-true, ltb-false, eqb-true, eq-eqb, lt-ltb, le-ltb}
@@ -16,7 +17,7 @@ use lib.Ieee.Scale.{round-same}
 use lib.Ieee.Back.{whole-unique}
 use Rattle.floats.specs.Floats.{absOf, roundOf, ofSmall}
 use Rattle.floats.proofs.Formats.{Held, held, exact, pow-le}
-use Rattle.floats.proofs.Laws.{value-whole, small-exact}
+use Rattle.floats.proofs.Laws.{uncapped, value-whole, cast-below, cast-above, small-exact}
 
 -- ---- the sign
 
@@ -89,6 +90,40 @@ whole-rounds f s (suc m) (negsuc k) h l =
   where
     room : (p k : ℕ) → p ≤ p - 1 + suc k
     room p k = omega arith
+
+-- ---- back from the whole part, n, of a value from 2 ^ 24 on: the value itself below 2 ^ 64, and 2 ^ 64 past it
+
+whole-from-value : (s : Bool) (m : ℕ) (e : ℤ) → T (fits binary32 (fin s m e)) → 16777216 ≤ m * up e / down e → fin s m e ≡ round binary32 s (m * up e / down e) 1
+whole-from-value s zero e h l = absurd (omega (arith, rw (zero-mul (up e), zero-div (down e)) at l))
+whole-from-value s (suc m) (pos k) h l =
+    let z = held binary32 s m (pos k) h in
+    whole-units binary32 s (suc m) k h (z .few) (z .under) ∙ ap (λ (n : ℕ). round binary32 s n 1) (sym (div-one (suc m * 2 ^ k)))
+whole-from-value s (suc m) (negsuc k) h l =
+    let few = held binary32 s m (negsuc k) h .few in
+    absurd (omega (arith, div-le-self (suc m * 1) (2 ^ suc k)))
+
+pub whole-from : (x : Float) {n : ℕ} → T (fits binary32 x) → n ≡ toUnsigned 64 x → 16777216 ≤ n → lt x (ofBits binary32 0x5f80_0000) ≡ true → x ≡ ofInt binary32 (pos n)
+unfolding toUnsigned lt ofBits ofInt
+whole-from nan h e l t = absurd (omega arith)
+whole-from (inf true) h e l t = absurd (omega arith)
+whole-from (inf false) h e l t = absurd (true≢false (sym t))
+whole-from (fin true m d) h e l t = absurd (omega arith)
+whole-from (fin false m d) {n} h e l t =
+    let under : m * up d < 18446744073709551616 * down d = omega (arith, ltb-true (m * up d * 1) (18446744073709551616 * down d) t) in
+    let q : n ≡ m * up d / down d = e ∙ uncapped (m * up d / down d) 18446744073709551616 (div-lt-iff-lt-mul (down-pos d) .1 under) in
+    rw q (whole-from-value false m d h (omega arith))
+
+top-float : ofBits binary32 0x5f80_0000 ≡ ofInt binary32 (pos 0xffff_ffff_ffff_ffff)
+unfolding ofBits ofInt
+top-float = refl
+
+pub whole-past : (x : Float) {n : ℕ} → n ≡ toUnsigned 64 x → 16777216 ≤ n → lt x (ofBits binary32 0x5f80_0000) ≡ false
+    → ofBits binary32 0x5f80_0000 ≡ ofInt binary32 (pos n)
+whole-past x {n} e l t = go (lt (neg (ofBits binary32 0x3f80_0000)) x) refl
+  where
+    go : (b : Bool) → lt (neg (ofBits binary32 0x3f80_0000)) x ≡ b → ofBits binary32 0x5f80_0000 ≡ ofInt binary32 (pos n)
+    go true u = top-float ∙ ap (λ (k : ℕ). ofInt binary32 (pos k)) (cast-above x u t ∙ sym e)
+    go false u = absurd (omega (arith, cast-below x u))
 
 -- ---- the three ways of `round`
 

@@ -4,7 +4,6 @@ use lib.Ieee.{Float}
 use lib.Ieee.Scale.{finite}
 use Rattle.floats.specs.Arithmetic.{_⊕_, _⊖_, _⊗_, _⊘_, f32}
 use Rattle.integrator.specs.declared.IntegratorState.{IntegratorState}
-use Rattle.integrator.specs.declared.FilterOutputs.{FilterOutputs}
 use Rattle.integrator.specs.declared.Coefficients.{Coefficients}
 use Rattle.integrator.specs.declared.Advanced.{Advanced}
 use Rattle.integrator.specs.declared.Substeps.{Substeps}

@@ -1,19 +1,17 @@
 -- Lists of twelve that a loop fills entry by entry, and the steps of the definitions at an index of the code.
-use Prim.Native.Nat.{ℕ, zero, suc, _+_, _-_, _*_, _/_, _^_, _≤_, _<_}
-use mathlib.Core.Path.{_≡_, refl, sym, ap, _∙_}
+use Prim.Native.Nat.{ℕ, zero, suc, _+_, _-_, _/_, _^_, _≤_, _<_}
+use mathlib.Core.Path.{_≡_, refl, sym, _∙_}
 use mathlib.Core.Logic.{⊎-elim}
 use mathlib.Core.Bool.{Bool, true, false, cond}
-use mathlib.Core.List.{List, [], _∷_, _++_}
+use mathlib.Core.List.{List, [], _∷_}
 use native.Mathlib.Omega.{arith}
-use native.Mathlib.Nat.{eq-or-lt-of-le, zero-add, div-div-eq-div-mul, pow-suc}
+use native.Mathlib.Nat.{eq-or-lt-of-le, div-div-eq-div-mul, pow-suc}
 use native.Mathlib.Numerals.{add-one}
 use lib.Dec.{eqb}
 use lib.ListN.{length, set, replicate, length-set, length-append, getD-replicate, List·getD-append}
 use lib.Seq.{getD-set-same, getD-set-other, getD-at, ext-getD}
-use lib.Ieee.{Float, nan, binary32, toBits}
+use lib.Ieee.{Float, nan}
 use borrow.Author.Tests.{eqb-true, eqb-false, eq-eqb, ne-eqb}
-use Rattle.wire.specs.Wire.{floatBytes, putAt, rows}
-use Rattle.wire.proofs.Laws.{length-bytesOf, putAt-whole, length-rows, rows-put}
 use Rattle.ladder.specs.Arithmetic.{_⊞_, _⊟_, _⊠_}
 use Rattle.ladder.specs.Ladder.{at, tabulated, sumOf, nextRowOf, rowAt, resultFrom}
 
@@ -101,15 +99,3 @@ row-next lower diagonal upper rhs (suc i) h = let q : suc i - 1 ≡ i = omega ar
 pub result-row : (c d : List Float) (i : ℕ) {x : Float} → i < 11 → x ≡ resultFrom c d (11 - (i + 1)) (i + 1) → at d i ⊟ at c i ⊠ x ≡ resultFrom c d (11 - i) i
 unfolding resultFrom
 result-row c d i h e = let q : 11 - i ≡ suc (11 - (i + 1)) = omega arith in rw (e, q, add-one)
-
--- ---- a table of f32 written from its start
-
-module _ (x : ℕ → Float) where
-  entry-length : (k : ℕ) → length (floatBytes (x k)) ≡ 4
-  entry-length k = length-bytesOf 4 (toBits binary32 (x k))
-
-  pub table-put : (s : List ℕ) (n : ℕ) → 4 * (n + 1) ≤ length s → putAt (putAt s 0 (rows (λ k. floatBytes (x k)) n)) (4 * n) (floatBytes (x n)) ≡ putAt s 0 (rows (λ k. floatBytes (x k)) (n + 1))
-  table-put s n h = rw zero-add at (rows-put (λ k. floatBytes (x k)) 4 entry-length s 0 n (omega arith))
-
-  pub table-whole : (s : List ℕ) (n : ℕ) → length s ≡ 4 * n → putAt s 0 (rows (λ k. floatBytes (x k)) n) ≡ rows (λ k. floatBytes (x k)) n
-  table-whole s n e = putAt-whole s (rows (λ k. floatBytes (x k)) n) (length-rows (λ k. floatBytes (x k)) 4 entry-length n ∙ sym e)

@@ -1,9 +1,11 @@
 // The cutoff DAC's resistor ladder, from tables.rs: 12 nodes, in f64.
 ghost use mathlib.Core.Path.{_≡_};
-ghost use Prim.Native.Nat.{_<_, _≤_};
+ghost use Prim.Native.Nat.{_<_};
 ghost use lib.ListN.{length};
-ghost use Rattle.ladder.specs.Ladder.{firstRowOf, nextRowOf, positionOf, cutoffScaleOf, sweepOf, substituteOf, solveOf, diagonalOf, rightSideOf, drivenLevelOf, drivenLevelsOf, totalOf, normalisedOf, weightsOf, valueOf};
-ghost use Rattle.ladder.specs.Calls.{allFiniteOf, judgeOf, settleNodesOf, settleLevelOf, solveTridiagonalOf, ladderWeightsOf, ladderValueOf, positionsFiniteOf, positionBytesOf, buildCutoffControlPositionsOf};
+ghost use Rattle.ladder.specs.Ladder.{firstRowOf, nextRowOf, positionOf, cutoffScaleOf, sweepOf, substituteOf, solveOf, diagonalOf, rightSideOf, drivenLevelOf, drivenLevelsOf};
+ghost use Rattle.ladder.specs.Ladder.{totalOf, normalisedOf, weightsOf, valueOf};
+ghost use Rattle.ladder.specs.Calls.{allFiniteOf, judgeOf, settleNodesOf, settleLevelOf, solveTridiagonalOf, ladderWeightsOf, ladderValueOf, positionsFiniteOf, positionBytesOf};
+ghost use Rattle.ladder.specs.Calls.{buildCutoffControlPositionsOf};
 use answers::Answer;
 
 // ---- solve_tridiagonal

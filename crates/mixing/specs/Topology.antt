@@ -1,7 +1,7 @@
 -- `MixingTopology::update` of mixing.rs: which sources the filter takes and which go straight to the mixer, by the routing and the mode nibble.
 -- Sources 0 to 2 are voices 1 to 3, and source 3 is the external input.
 use Prim.Native.Nat.{ℕ, _+_, _*_, min}
-use mathlib.Core.Bool.{Bool, true, false, not, _&&_, cond}
+use mathlib.Core.Bool.{Bool, not, _&&_, cond}
 use mathlib.Core.List.{List, [], _∷_}
 use lib.Dec.{eqb}
 use lib.IntN.{pos}

@@ -1,18 +1,16 @@
 -- The positions lie in their tables, so that an index is a float exactly. Assumes nothing.
-use mathlib.Core.Path.{_≡_, refl, sym, _∙_}
+use mathlib.Core.Path.{_≡_, refl}
 use mathlib.Core.Bool.{Bool, true, not, _&&_}
 use Prim.Native.Nat.{ℕ, _+_, _≤_, _<_, min}
-use native.Mathlib.Nat.{le-trans}
 use native.Mathlib.Omega.{arith}
 use borrow.Author.Tests.{not-true}
 use native.Mathlib.Numerals.{add-one}
-use lib.Dec.{T, lit≤}
-use lib.IntN.{pos}
-use lib.Ieee.{Float, binary32, ofInt, ofBits, toUnsigned, isNan, eq, lt, le}
-use Rattle.floats.specs.Arithmetic.{_⊖_, _⊗_, _⊘_, f32}
+use lib.Dec.{T}
+use lib.Ieee.{Float, binary32, ofBits, toUnsigned, isNan, eq, lt, le}
+use Rattle.floats.specs.Arithmetic.{_⊖_, _⊗_, f32}
 use Rattle.floats.specs.Floats.{clampOf, ofSmall}
 use Rattle.floats.proofs.Laws.{both, equal-no-nan, small-exact}
-use Rattle.floats.proofs.Range.{Whole, ofInt-whole, index-below, index-between, bin-index, loading-index, loading-any}
+use Rattle.floats.proofs.Range.{Whole, ofInt-whole, index-below, index-between, bin-index, loading-index}
 use Rattle.response.specs.declared.TablePosition.{TablePosition}
 use Rattle.response.specs.Position.{activityOf, operatingPositionOf, loadingPositionOf}
 
@@ -25,22 +23,6 @@ operating-lower input band low = bin-index _
 pub loading-lower : (cutoff : ℕ) → cutoff ≤ 2047 → loadingPositionOf cutoff .lower ≤ 31
 unfolding loadingPositionOf
 loading-lower cutoff h = loading-index cutoff h
-
--- what the code puts together: n is the index, u the next one, and w the index as a float
-position-told : (last : ℕ) (p : Float) {w : Float} {n u : ℕ} → toUnsigned 64 p ≤ 16777216 → n ≡ toUnsigned 64 p → u ≡ min (n + 1) last → w ≡ ofSmall n
-    → _≡_ {A = TablePosition} (record { lower = n; upper = u; fraction = p ⊖ w }) (record { lower = toUnsigned 64 p; upper = min (toUnsigned 64 p + 1) last; fraction = p ⊖ ofInt binary32 (pos (toUnsigned 64 p)) })
-position-told last p h n u w = rw (u, w, n, small-exact h)
-
-pub operating-told : (input band low : Float) {a w : Float} {n u : ℕ} → a ≡ activityOf input band low → n ≡ toUnsigned 64 (a ⊗ f32 0x4170_0000) → u ≡ min (n + 1) 15 → w ≡ ofSmall n
-    → _≡_ {A = TablePosition} (record { lower = n; upper = u; fraction = a ⊗ f32 0x4170_0000 ⊖ w }) (operatingPositionOf input band low)
-unfolding operatingPositionOf
-operating-told input band low e n u w =
-    rw e (position-told 15 (activityOf input band low ⊗ f32 0x4170_0000) (le-trans (operating-lower input band low) (lit≤ tt)) (rw e at n) u w)
-
-pub loading-told : (cutoff : ℕ) {c w : Float} {n u : ℕ} → cutoff < 65536 → c ≡ ofInt binary32 (pos cutoff) → n ≡ toUnsigned 64 (c ⊗ f32 0x41f8_0000 ⊘ f32 0x44ff_e000) → u ≡ min (n + 1) 31 → w ≡ ofSmall n
-    → _≡_ {A = TablePosition} (record { lower = n; upper = u; fraction = c ⊗ f32 0x41f8_0000 ⊘ f32 0x44ff_e000 ⊖ w }) (loadingPositionOf cutoff)
-unfolding loadingPositionOf
-loading-told cutoff h e n u w = rw e (position-told 31 (ofInt binary32 (pos cutoff) ⊗ f32 0x41f8_0000 ⊘ f32 0x44ff_e000) (loading-any cutoff h) (rw e at n) u w)
 
 -- ---- a guessed bin
 
@@ -74,9 +56,11 @@ module _ (s : Float) (h : (Free s && lt (s ⊗ f32 0x4170_0000) (f32 0x4170_0000
       let p = both (not (lt s (f32 0))) (not (lt (f32 0x3f80_0000) s)) (both (Free s) (lt (s ⊗ f32 0x4170_0000) (f32 0x4170_0000)) h .0) in
       rw (not-true (lt s (f32 0)) (p .0), not-true (lt (f32 0x3f80_0000) s) (p .1))
 
-  pub near-told : (input band low : Float) {w : Float} {n : ℕ} → clampOf s (f32 0) (f32 0x3f80_0000) ≡ activityOf input band low → n ≡ toUnsigned 64 (s ⊗ f32 0x4170_0000) → w ≡ ofSmall n
+  pub near-told : (input band low : Float) {w : Float} {n : ℕ} → clampOf s (f32 0) (f32 0x3f80_0000) ≡ activityOf input band low
+      → n ≡ toUnsigned 64 (s ⊗ f32 0x4170_0000) → w ≡ ofSmall n
       → _≡_ {A = TablePosition} (record { lower = n; upper = n + 1; fraction = s ⊗ f32 0x4170_0000 ⊖ w }) (operatingPositionOf input band low)
+  unfolding operatingPositionOf
   near-told input band low {w} {n} e is-n is-w =
       let few : n ≤ 14 = rw is-n near-index in
       let next : n + 1 ≡ min (n + 1) 15 = omega arith in
-      operating-told input band low (sym unclamped ∙ e) is-n next is-w
+      rw (← e, unclamped, ← is-n, ← next, is-w, small-exact {n = n} (omega arith))

@@ -26,7 +26,7 @@ resonancePositionOf resonance = clampOf ((resonanceOf resonance ⊖ f32 0x4100_0
 abbrev pub lowResonancePositionOf : ℕ → Float
 lowResonancePositionOf resonance = clampOf ((f32 0x4100_0000 ⊖ resonanceOf resonance) ⊘ f32 0x4100_0000) (f32 0) one
 
--- r is the high resonance, p the cutoff's position
+-- r is the resonance's position, p the cutoff's
 abbrev pub lowGainOf : Float → Float
 lowGainOf r = (K.FILTER-LOWPASS-GAIN-AT-MID-RESONANCE ⊖ K.FILTER-LOWPASS-GAIN-RESONANCE-DROP ⊗ r) ⊗ K.FILTER-LOWPASS-OUTPUT-TRIM
 
@@ -92,13 +92,13 @@ singleModeLoadingOf m resonance cutoff =
     cond (isSingleModeOf m) (loadingOf singleModeCutoffGainOf (modeIndexOf m) cutoff ⊗ singleModeResonanceGainOf (modeIndexOf m) resonance) one
 
 unfoldable pub filterModeOutputGainOf : ℕ → ℕ → ℕ → Float → Float
-filterModeOutputGainOf mode resonance cutoff highpass-loading =
+filterModeOutputGainOf mode resonance cutoff loading =
     let m = mode % 8 in
     let p = cutoffPositionOf cutoff in
     baseGainOf m (resonancePositionOf resonance) p
     ⊗ lowBandLiftOf m resonance
     ⊗ bandpassTrimOf m p
-    ⊗ highpassLoadingOf m highpass-loading
+    ⊗ highpassLoadingOf m loading
     ⊗ highpassResonanceTrimOf m resonance p
     ⊗ singleModeLoadingOf m resonance cutoff
 

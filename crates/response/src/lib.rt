@@ -3,11 +3,13 @@ ghost use mathlib.Core.Path.{_≡_};
 ghost use Prim.Native.Nat.{_+_, min};
 ghost use mathlib.Core.Bool.{not};
 ghost use lib.Dec.{T};
-ghost use lib.Ieee.{isNan, toUnsigned};
+ghost use lib.IntN.{pos};
+ghost use lib.Ieee.{binary32, isNan, ofInt, toUnsigned};
 ghost use Rattle.floats.specs.Arithmetic.{f32};
 ghost use Rattle.floats.specs.Floats.{absOf, clampOf};
-ghost use Rattle.response.specs.Levels.{analogueSpanOf, normaliseVoltageOf, filterModeQuiescentLevelOf, addIf, branchSumOf, volumeDacConductanceCodeOf, interpolateOf, cutoffPositionOf, filterOutputCommonModeOf};
-ghost use Rattle.response.specs.Position.{activityOf, operatingPositionOf, loadingPositionOf};
+ghost use Rattle.response.specs.Levels.{analogueSpanOf, normaliseVoltageOf, filterModeQuiescentLevelOf, addIf, branchSumOf, volumeDacConductanceCodeOf, interpolateOf};
+ghost use Rattle.response.specs.Levels.{cutoffPositionOf, filterOutputCommonModeOf};
+ghost use Rattle.response.specs.Position.{tablePositionOf, activityOf, operatingPositionOf, loadingPositionOf};
 ghost use Rattle.response.specs.Gain as G;
 
 // ---- levels
@@ -116,6 +118,32 @@ fn next_index(lower: usize, last: usize) -> usize
     if lower < last { lower + 1 } else { last }
 }
 
+// A position's whole part as a float, which is exact: from 2^24 on every f32 is whole, and an index stops below 2^64.
+fn whole_part(position: f32, lower: usize) -> f32
+    requires { ⌜ lower ≡ toUnsigned 64 position ⌝ }
+    ensures { λ r. ⌜ r ≡ ofInt binary32 (pos lower) ⌝ }
+{
+    if lower < 0x100_0000 {
+        return lower as f32;
+    }
+    if position < 18446744073709551616.0 {
+        return position;
+    }
+    18446744073709551616.0
+}
+
+// Between which two entries of a table a position lies, whatever it is.
+pub fn table_position(last: usize, position: f32) -> TablePosition
+    ensures { λ r. ⌜ r ≡ tablePositionOf last position ⌝ }
+{
+    let lower = floats::as_usize(position);
+    TablePosition {
+        lower,
+        upper: next_index(lower, last),
+        fraction: position - whole_part(position, lower),
+    }
+}
+
 fn activity(input: f32, band: f32, low: f32) -> f32
     ensures { λ r. ⌜ r ≡ activityOf input band low ⌝ }
 {
@@ -130,13 +158,7 @@ fn activity(input: f32, band: f32, low: f32) -> f32
 pub fn operating_position(input: f32, band: f32, low: f32) -> TablePosition
     ensures { λ r. ⌜ r ≡ operatingPositionOf input band low ⌝ }
 {
-    let position = activity(input, band, low) * 15.0;
-    let lower = floats::as_usize(position);
-    TablePosition {
-        lower,
-        upper: next_index(lower, 15),
-        fraction: position - floats::of_usize(lower),
-    }
+    table_position(15, activity(input, band, low) * 15.0)
 }
 
 // x.abs() of a number that is no NaN, without a selection: a NaN has no bits to clear.
@@ -197,13 +219,7 @@ pub fn operating_position_near(input: f32, band: f32, low: f32, guess: usize) ->
 pub fn loading_position(cutoff: u16) -> TablePosition
     ensures { λ r. ⌜ r ≡ loadingPositionOf cutoff ⌝ }
 {
-    let position = floats::of_u16(cutoff) * 31.0 / 2047.0;
-    let lower = floats::as_usize(position);
-    TablePosition {
-        lower,
-        upper: next_index(lower, 31),
-        fraction: position - floats::of_usize(lower),
-    }
+    table_position(31, floats::of_u16(cutoff) * 31.0 / 2047.0)
 }
 
 // ---- the gain of a mode's output
@@ -214,13 +230,13 @@ fn resonance_of(resonance: u8) -> f32
     floats::of_u16(resonance as u16)
 }
 
-fn high_resonance(resonance: u8) -> f32
+fn resonance_position(resonance: u8) -> f32
     ensures { λ r. ⌜ r ≡ G.resonancePositionOf resonance ⌝ }
 {
     floats::clamp((resonance_of(resonance) - 8.0) / 7.0, 0.0, 1.0)
 }
 
-fn low_resonance(resonance: u8) -> f32
+fn low_resonance_position(resonance: u8) -> f32
     ensures { λ r. ⌜ r ≡ G.lowResonancePositionOf resonance ⌝ }
 {
     floats::clamp((8.0 - resonance_of(resonance)) / 8.0, 0.0, 1.0)
@@ -277,7 +293,7 @@ fn low_band_lift(m: u8, resonance: u8) -> f32
     ensures { λ r. ⌜ r ≡ G.lowBandLiftOf m resonance ⌝ }
 {
     if m == 3 {
-        let low = low_resonance(resonance);
+        let low = low_resonance_position(resonance);
         return 1.0 + constants::FILTER_LOW_BAND_LOW_RESONANCE_LIFT * low * low;
     }
     1.0
@@ -293,7 +309,7 @@ fn bandpass_trim(m: u8, p: f32) -> f32
     1.0
 }
 
-fn in_high_mode(m: u8, loading: f32) -> f32
+fn highpass_loading(m: u8, loading: f32) -> f32
     ensures { λ r. ⌜ r ≡ G.highpassLoadingOf m loading ⌝ }
 {
     if m == 4 {
@@ -350,16 +366,16 @@ fn single_mode_loading(m: u8, resonance: u8, cutoff: u16) -> f32
     1.0
 }
 
-// The output gain of a mode at a resonance and the effective cutoff. highpass_loading is the bundle's entry for that cutoff.
-pub fn filter_mode_output_gain(mode: u8, resonance: u8, cutoff: u16, highpass_loading: f32) -> f32
-    ensures { λ r. ⌜ r ≡ G.filterModeOutputGainOf mode resonance cutoff «highpass_loading» ⌝ }
+// The output gain of a mode at a resonance and the effective cutoff. `loading` is the bundle's highpass entry for that cutoff.
+pub fn filter_mode_output_gain(mode: u8, resonance: u8, cutoff: u16, loading: f32) -> f32
+    ensures { λ r. ⌜ r ≡ G.filterModeOutputGainOf mode resonance cutoff loading ⌝ }
 {
     let m = mode % 8;
     let p = cutoff_position(cutoff);
-    base_gain(m, high_resonance(resonance), p)
+    base_gain(m, resonance_position(resonance), p)
         * low_band_lift(m, resonance)
         * bandpass_trim(m, p)
-        * in_high_mode(m, highpass_loading)
+        * highpass_loading(m, loading)
         * highpass_resonance_trim(m, resonance, p)
         * single_mode_loading(m, resonance, cutoff)
 }

@@ -1,7 +1,7 @@
 -- Laws of `first`, and of the entries that do not lie whole in the bytes.
 use Prim.Native.Nat.{ℕ, zero, suc, _+_, _-_, _*_, _≤_, _<_}
 use mathlib.Core.Path.{_≡_, refl, ap, subst, _∙_}
-use mathlib.Core.Bool.{Bool, true, false, not, cond}
+use mathlib.Core.Bool.{Bool, true, false, cond}
 use mathlib.Core.Logic.{⊎-elim}
 use mathlib.Core.List.{List}
 use native.Mathlib.Omega.{arith}
@@ -10,27 +10,10 @@ use lib.Dec.{leb}
 use lib.ListN.{length}
 use borrow.Author.Tests.{leb-true, leb-false}
 use Rattle.wire.specs.Wire.{usableOf, usableAt}
-use Rattle.wire.specs.First.{first, usableEntry, every, blockUsableOf, firstUnusableOf}
-use Rattle.wire.proofs.Laws.{le-or-lt, both, numberAt-out}
-
--- it lies in the run or at its end
-pub first-ge : (ok : ℕ → Bool) (n i : ℕ) → i ≤ first ok n i
-unfolding first
-first-ge ok zero i = omega arith
-first-ge ok (suc n) i = go (ok i) (first-ge ok n (suc i))
-  where
-    go : (b : Bool) → suc i ≤ first ok n (suc i) → i ≤ cond b (first ok n (suc i)) i
-    go true h = omega arith
-    go false h = omega arith
-
-pub first-le : (ok : ℕ → Bool) (n i : ℕ) → first ok n i ≤ i + n
-unfolding first
-first-le ok zero i = omega arith
-first-le ok (suc n) i = go (ok i) (first-le ok n (suc i))
-  where
-    go : (b : Bool) → first ok n (suc i) ≤ suc i + n → cond b (first ok n (suc i)) i ≤ i + suc n
-    go true h = omega arith
-    go false h = omega arith
+use Rattle.wire.specs.First.{first, every, usableEntry, firstUnusableOf}
+use Rattle.wire.specs.Inner.{blockUsableOf}
+use Rattle.floats.proofs.Laws.{both}
+use Rattle.wire.proofs.Laws.{le-or-lt, numberAt-out}
 
 -- the test holds before it
 pub first-before : (ok : ℕ → Bool) (n i k : ℕ) → i ≤ k → k < first ok n i → ok k ≡ true

@@ -8,14 +8,12 @@ use native.Mathlib.Omega.{arith}
 use native.Mathlib.Nat.{add-zero}
 use lib.Dec.{T, leb, eqb}
 use lib.ListN.{length, take, drop}
-use lib.Ieee as Ieee
 use lib.Ieee.{Float, nan, inf, fin, binary32, odd, ofFields, ofBits, toBits, nanBits, isNan, fits}
 use lib.Ieee.Bits.{ofBits-toBits, toBits-ofBits, toBits-lt, nanBits-is, nanBits-above}
-use lib.Ieee.Compare.{differs-from-itself}
 use lib.Ieee.Scale.{finite}
 use borrow.Author.Tests.{lt-ltb, le-ltb, ltb-true, leb-true, eq-eqb, ne-eqb}
-use Rattle.wire.specs.Wire.{Bytes, u32At, f32At, usableOf, finiteBitsOf, floatBytes, putAt, rows}
-use Rattle.wire.proofs.Laws.{le-or-lt, length-bytesOf, numberAt-lt, numberAt-bytesOf, numberAt-put, numberAt-rows, bytesOf-numberAt}
+use Rattle.wire.specs.Wire.{Bytes, u32At, f32At, usableOf, finiteBitsOf, floatBytes, rows}
+use Rattle.wire.proofs.Laws.{le-or-lt, length-bytesOf, numberAt-lt, numberAt-bytesOf, numberAt-rows, bytesOf-numberAt}
 
 no : {t : Bool} → t ≡ false → T (not t)
 no e = subst (λ (t : Bool). T (not t)) (sym e) tt
@@ -41,17 +39,6 @@ usable-no-nan b e = no-nan b (omega (arith, leb-true (b % 2 ^ 31) 0x4480_0000 e)
 pub finite-no-nan : (b : ℕ) → finiteBitsOf b ≡ true → T (not (nanBits binary32 b))
 unfolding finiteBitsOf
 finite-no-nan b e = no-nan b (omega (arith, ltb-true (b % 2 ^ 31) 0x7f80_0000 e))
-
--- a float that equals itself is no NaN, and one that does not is
-pub same-no-nan : (x : Float) → Ieee.eq x x ≡ true → T (not (isNan x))
-unfolding Ieee.eq isNan
-same-no-nan nan e = subst (λ (t : Bool). T (not t)) e tt
-same-no-nan (inf s) e = tt
-same-no-nan (fin s m d) e = tt
-
-pub unlike-nan : (x : Float) → Ieee.eq x x ≡ false → x ≡ nan
-unfolding Ieee.ne
-unlike-nan x e = differs-from-itself x (no e)
 
 -- ---- finite patterns
 
@@ -87,18 +74,15 @@ finiteBits-is b =
     fields : finite (ofBits binary32 b) ≡ not (eqb (b % 2 ^ 31 / 2 ^ 23) 255)
     fields = finite-fields (leb (2 ^ 31) b) (b % 2 ^ 31 / 2 ^ 23) (b % 2 ^ 23)
 
-pub finiteBits-toBits : (x : Float) → T (fits binary32 x) → finiteBitsOf (toBits binary32 x) ≡ finite x
-finiteBits-toBits x f = finiteBits-is (toBits binary32 x) ∙ ap finite (ofBits-toBits binary32 x f)
-
 -- ---- there and back
 
-pub f32At-put : (s : List ℕ) (p : ℕ) (x : Float) → p + 4 ≤ length s → T (fits binary32 x) → f32At (putAt s p (floatBytes x)) p ≡ x
-f32At-put s p x h f = ap (ofBits binary32) (numberAt-put 4 s p (toBits binary32 x) h (toBits-lt binary32 x f)) ∙ ofBits-toBits binary32 x f
+pub length-floatBytes : (x : Float) → length (floatBytes x) ≡ 4
+length-floatBytes x = length-bytesOf 4 (toBits binary32 x)
 
 -- entry k of a table of floats
 pub f32At-rows : (x : ℕ → Float) (n k : ℕ) → k < n → T (fits binary32 (x k)) → f32At (rows (λ (i : ℕ). floatBytes (x i)) n) (4 * k) ≡ x k
 f32At-rows x n k l f =
-    let e = numberAt-rows (λ (i : ℕ). floatBytes (x i)) 4 (λ i. length-bytesOf 4 (toBits binary32 (x i))) 4 n k 0 l (omega arith) in
+    let e = numberAt-rows (λ (i : ℕ). floatBytes (x i)) 4 (λ i. length-floatBytes (x i)) 4 n k 0 l (omega arith) in
     ap (ofBits binary32) (rw add-zero at e ∙ numberAt-bytesOf 4 (toBits binary32 (x k)) (toBits-lt binary32 (x k) f)) ∙ ofBits-toBits binary32 (x k) f
 
 module _ (s : List ℕ) (p : ℕ) (b : Bytes s) (h : T (not (nanBits binary32 (u32At s p)))) where

@@ -2,13 +2,13 @@
 use Prim.Native.Nat.{ℕ, zero, suc, _+_, _-_, _*_, _/_, _%_, _^_, _≤_, _<_}
 use mathlib.Core.Path.{_≡_, refl, ap, sym, subst, _∙_}
 use mathlib.Core.Logic.{_⊎_, inl, inr, ⊎-elim}
-use mathlib.Core.Bool.{Bool, true, false, not, _&&_}
+use mathlib.Core.Bool.{Bool, true, false}
 use mathlib.Core.List.{List, [], _∷_, _++_, append-assoc, append-nil}
 use native.Mathlib.Omega.{arith}
 use native.Mathlib.Numerals.{add-one}
-use native.Mathlib.Nat.{add-assoc, add-zero, mul-zero, mul-suc, mul-le-mul-left, pow-suc, mod-one, mod-eq-of-lt, one-le-pow}
+use native.Mathlib.Nat.{zero-add, add-assoc, add-zero, mul-zero, mul-suc, mul-le-mul-left, pow-suc, mod-one, mod-eq-of-lt, one-le-pow}
 use lib.Arith.{mod-mul}
-use lib.Dec.{T, leb, lit<}
+use lib.Dec.{leb, lit<}
 use lib.ListN.{length, take, drop, length-append, length-take, length-drop, take-append-drop, drop-of-length-le, List·getD-eq-default}
 use lib.Seq.{length-take-le, take-all, drop-cons, take-append-le, drop-append-le, take-at, drop-at, drop-drop, getD-take, getD-drop, sets, sets-eq, paste, take-length}
 use borrow.Author.Tests.{le-leb, lt-leb, leb-true, leb-false}
@@ -22,10 +22,6 @@ le-or-lt a b = go (leb a b) refl
     go : (t : Bool) → leb a b ≡ t → (a ≤ b) ⊎ (b < a)
     go true e = inl (leb-true a b e)
     go false e = inr (leb-false a b e)
-
-pub both : (a b : Bool) → a && b ≡ true → (a ≡ true) × (b ≡ true)
-both true b e = (refl, e)
-both false b e = (e, absurd (subst (λ (t : Bool). T (not t)) e tt))
 
 zero<256 : 0 < 256
 zero<256 = lit< tt
@@ -90,14 +86,6 @@ numberAt-lt n s p b =
     (λ (h : p + n ≤ length s). rw (numberAt-in n s p h) (subst (λ (k : ℕ). little (take n (drop p s)) < 256 ^ k) (length-part n s p h) (little-lt (take n (drop p s)) (part-bytes n s p h b))))
     (λ (h : length s < p + n). rw (numberAt-out n s p h) (one-le-pow n 256 zero<256))
     (le-or-lt (p + n) (length s))
-
--- a byte is a number of one byte, so the laws of numbers serve it too
-pub numberAt-one : (s : List ℕ) (p : ℕ) → numberAt 1 s p ≡ byteAt s p
-numberAt-one s p =
-    ⊎-elim
-    (λ (h : p + 1 ≤ length s). rw (numberAt-in 1 s p h, drop-cons s p 0 (omega arith)) (add-zero (byteAt s p)))
-    (λ (h : length s < p + 1). numberAt-out 1 s p h ∙ sym (List·getD-eq-default s 0 {n = p} (omega arith)))
-    (le-or-lt (p + 1) (length s))
 
 -- the bytes of a number one by one
 part-cons : (n : ℕ) (s : List ℕ) (p : ℕ) → p < length s → take (suc n) (drop p s) ≡ byteAt s p ∷ take n (drop (p + 1) s)
@@ -229,12 +217,6 @@ module _ (s : List ℕ) (p : ℕ) (vs : List ℕ) where
         (λ h. rw e at (numberAt-second n (take p s ++ vs) (drop m s) m (q - m) (front h) ∙ numberAt-drop n s m (q - m) h))
         refl
 
--- a number that is written is read back
-pub numberAt-put : (n : ℕ) (s : List ℕ) (p v : ℕ) → p + n ≤ length s → v < 256 ^ n → numberAt n (putAt s p (bytesOf n v)) p ≡ v
-numberAt-put n s p v h l =
-    let e = length-bytesOf n v in
-    rw add-zero at (numberAt-written s p (bytesOf n v) n 0 (omega arith) (omega arith)) ∙ numberAt-bytesOf n v l
-
 -- ---- rows of w bytes each
 
 module _ (r : ℕ → List ℕ) (w : ℕ) (e : (k : ℕ) → length (r k) ≡ w) where
@@ -249,6 +231,17 @@ module _ (r : ℕ → List ℕ) (w : ℕ) (e : (k : ℕ) → length (r k) ≡ w)
   rows-put s p n h =
       let h′ : p + (w * n + w) ≤ length s = rw (add-one, mul-suc) at h in
       rw add-one (putAt-join s p (rows r n) (r n) (p + w * n) (ap (λ (k : ℕ). p + k) (length-rows n)) (omega (arith, e n)))
+
+  -- A list that is filled from its front: no row, one more, and all that it has room for.
+  pub front-none : (s : List ℕ) → s ≡ putAt s 0 (rows r 0)
+  unfolding rows
+  front-none s = sym (putAt-nil s 0)
+
+  pub front-more : (s : List ℕ) (n : ℕ) → w * (n + 1) ≤ length s → putAt (putAt s 0 (rows r n)) (w * n) (r n) ≡ putAt s 0 (rows r (n + 1))
+  front-more s n h = rw zero-add at (rows-put s 0 n (rw zero-add h))
+
+  pub front-all : (s : List ℕ) (n : ℕ) → length s ≡ w * n → putAt s 0 (rows r n) ≡ rows r n
+  front-all s n h = putAt-whole s (rows r n) (length-rows n ∙ sym h)
 
   -- a number in row k
   pub numberAt-rows : (m n k j : ℕ) → k < n → j + m ≤ w → numberAt m (rows r n) (w * k + j) ≡ numberAt m (r k) j

@@ -11,10 +11,10 @@ use lib.Signed.{nonNeg, mag, leZ}
 use lib.ListN.{length, take, drop}
 use mir.Syntax.{w16}
 use mir.Val.{toZ, ofZ, Fits, SFits}
-use mir.ValLaws.{toZ-pos, toZ-ofZ, ofZ-toZ, ofZ-fits}
+use mir.ValLaws.{toZ-pos, toZ-ofZ, ofZ-toZ}
 use borrow.Author.Tests.{le-ltb, leb-false}
-use Rattle.wire.specs.Wire.{Bytes, u16At, i16At, bytesOf, putAt}
-use Rattle.wire.proofs.Laws.{numberAt-lt, numberAt-put, bytesOf-numberAt}
+use Rattle.wire.specs.Wire.{Bytes, u16At, i16At, bytesOf}
+use Rattle.wire.proofs.Laws.{numberAt-lt, bytesOf-numberAt}
 
 -- ---- from 16 bits: -1 less the distance from the top
 
@@ -64,10 +64,6 @@ module _ (z : ℤ) (f : SFits w16 z) (t : leZ (pos 0) (toZ w16 (ofZ w16 z)) ≡ 
       bits (negsuc n) u = omega arith
 
 -- ---- there and back
-
-pub i16At-put : (s : List ℕ) (p : ℕ) (z : ℤ) → p + 2 ≤ length s → SFits w16 z → i16At (putAt s p (bytesOf 2 (ofZ w16 z))) p ≡ z
-unfolding i16At
-i16At-put s p z h f = ap (toZ w16) (numberAt-put 2 s p (ofZ w16 z) h (ofZ-fits w16 z f .fits)) ∙ toZ-ofZ w16 z f
 
 module _ (s : List ℕ) (p : ℕ) (b : Bytes s) where
   pub ofZ-i16At : ofZ w16 (i16At s p) ≡ u16At s p

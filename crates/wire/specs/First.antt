@@ -1,14 +1,18 @@
--- The first of a run of numbers at which a test fails, and the first unusable entry of a run of entries.
+-- The first of a run of numbers at which a test fails, whether it holds at each, and the first unusable entry of a run of entries.
 use Prim.Native.Nat.{ℕ, zero, suc, _+_, _*_}
 use mathlib.Core.Bool.{Bool, true, cond, _&&_}
 use mathlib.Core.List.{List}
-use lib.Dec.{leb}
 use Rattle.wire.specs.Wire.{usableAt}
 
 -- The first of the n numbers from i on at which ok is false, and i + n where there is none.
 unfoldable pub first : (ℕ → Bool) → ℕ → ℕ → ℕ
 first ok zero i = i
 first ok (suc n) i = cond (ok i) (first ok n (suc i)) i
+
+-- The test holds at each of the first n numbers.
+unfoldable pub every : (ℕ → Bool) → ℕ → Bool
+every ok zero = true
+every ok (suc n) = every ok n && ok n
 
 -- Entry i of those that begin at the byte from is usable. One that does not lie whole in the list reads as 0, and is.
 unfoldable pub usableEntry : List ℕ → ℕ → ℕ → Bool
@@ -17,12 +21,3 @@ usableEntry s from i = usableAt s (from + 4 * i)
 -- The index of the first unusable one of count entries, and count where each is usable.
 abbrev pub firstUnusableOf : List ℕ → ℕ → ℕ → ℕ
 firstUnusableOf s from count = first (usableEntry s from) count 0
-
--- The test holds at each of the first n numbers.
-unfoldable pub every : (ℕ → Bool) → ℕ → Bool
-every ok zero = true
-every ok (suc n) = every ok n && ok n
-
--- Of the entries left at p there are 64, and each of the 64 is usable.
-unfoldable pub blockUsableOf : List ℕ → ℕ → ℕ → Bool
-blockUsableOf s p left = leb 64 left && every (usableEntry s p) 64

@@ -41,10 +41,7 @@ u16At s p = numberAt 2 s p
 abbrev pub u32At : List ℕ → ℕ → ℕ
 u32At s p = numberAt 4 s p
 
--- The four numbers of four bytes from p on, and the sixteen.
-abbrev pub fourAt : List ℕ → ℕ → List ℕ
-fourAt s p = u32At s p ∷ u32At s (p + 4) ∷ u32At s (p + 8) ∷ u32At s (p + 12) ∷ []
-
+-- The sixteen numbers of four bytes from p on.
 abbrev pub sixteenAt : List ℕ → ℕ → List ℕ
 sixteenAt s p =
     u32At s p ∷ u32At s (p + 4) ∷ u32At s (p + 8) ∷ u32At s (p + 12) ∷ u32At s (p + 16) ∷ u32At s (p + 20) ∷ u32At s (p + 24) ∷ u32At s (p + 28)

@@ -7,8 +7,9 @@ ghost use lib.ListN.{length};
 ghost use lib.Ieee.{binary32, ofBits, toBits};
 ghost use mir.Syntax.{w16};
 ghost use mir.Val.{toZ, ofZ};
-ghost use Rattle.wire.specs.Wire.{little, byteAt, u16At, i16At, u32At, fourAt, sixteenAt, f32At, usableOf, usableAt, allUsable, finiteBitsOf, bytesOf, floatBytes, rowBytes, putAt};
-ghost use Rattle.wire.specs.First.{firstUnusableOf, blockUsableOf};
+ghost use Rattle.wire.specs.Wire.{little, byteAt, u16At, i16At, u32At, sixteenAt, f32At, usableOf, usableAt, allUsable, finiteBitsOf, bytesOf, floatBytes, rowBytes, putAt};
+ghost use Rattle.wire.specs.First.{firstUnusableOf};
+ghost use Rattle.wire.specs.Inner.{fourAt, blockUsableOf};
 
 // ---- numbers and their bits
 
@@ -170,24 +171,13 @@ pub fn sixteen_at(s: &[u8], place: u32) -> [u32; 16]
             return sixteen(s, p);
         }
     }
-    [
-        u32_at(s, p),
-        u32_at(s, p + 4),
-        u32_at(s, p + 8),
-        u32_at(s, p + 12),
-        u32_at(s, p + 16),
-        u32_at(s, p + 20),
-        u32_at(s, p + 24),
-        u32_at(s, p + 28),
-        u32_at(s, p + 32),
-        u32_at(s, p + 36),
-        u32_at(s, p + 40),
-        u32_at(s, p + 44),
-        u32_at(s, p + 48),
-        u32_at(s, p + 52),
-        u32_at(s, p + 56),
-        u32_at(s, p + 60),
-    ]
+    let mut words = [0u32; 16];
+    let mut i = 0;
+    while i < 16 {
+        words[i] = u32_at(s, p + 4 * i);
+        i += 1;
+    }
+    words
 }
 
 // The four bytes at a place as a float, whatever their pattern.

@@ -9,7 +9,9 @@ use denote.Ref.{now}
 use borrow.Author.Needs.{needs}
 use Rattle.wire.specs.Wire.{floatBytes, putAt, rows}
 use Rattle.curves.specs.Inner.{rowLength, blendOf, blendRowsOf}
-use Rattle.curves.proofs.Building.{none-put, one-more, all-put, length-entry, last-again}
+use Rattle.wire.proofs.Laws.{front-none, front-more, front-all}
+use Rattle.wire.proofs.Floats.{length-floatBytes}
+use Rattle.curves.proofs.Building.{last-again}
 use Rattle.curves.proofs.blend_rows.Statement.{statement}
 use Rattle.curves.proofs.blend_rows.Tie as tie
 
@@ -26,7 +28,7 @@ loop-holds : tie.Need-loop-holds Inv-loop μ-loop
 loop-holds c =
     let a = c .before .before .before .args in
     let x = blendOf (now (a .lower)) (now (a .upper)) (a .fraction) (a .curve) in
-    (search needs, refl, none-put (bytes (now (a .lower)) (now (a .upper)) (a .fraction) (a .curve)) 4 (length-entry x) (now (a .row)))
+    (search needs, refl, front-none (bytes (now (a .lower)) (now (a .upper)) (a .fraction) (a .curve)) 4 (λ k. length-floatBytes (x k)) (now (a .row)))
 
 mul-put-f32 : tie.Need-mul-put-f32 Inv-loop μ-loop
 mul-put-f32 c = search needs
@@ -56,7 +58,7 @@ loop-again c =
       p .put-f32 .ensures
           ∙ ap (λ (y : Float). putAt (z .loop .row) (4 * k) (floatBytes y)) (p .before .blend .ensures)
           ∙ ap (λ (l : List ℕ). putAt l (4 * k) (floatBytes (x k))) (z .loop .inv .2)
-          ∙ one-more (bytes (now (a .lower)) (now (a .upper)) (a .fraction) (a .curve)) 4 (length-entry x) (now (a .row)) k (omega (arith, s .pre .0)),
+          ∙ front-more (bytes (now (a .lower)) (now (a .upper)) (a .fraction) (a .curve)) 4 (λ k. length-floatBytes (x k)) (now (a .row)) k (omega (arith, s .pre .0)),
     )
 
 blend-requires-2 : tie.Need-blend-requires-2 Inv-loop μ-loop
@@ -81,8 +83,8 @@ returns c =
     p .put-f322 .ensures
     ∙ ap (λ (y : Float). putAt (z .loop .row) rowLength (floatBytes y)) (p .before .blend2 .ensures ∙ last-again (now (a .lower)) (now (a .upper)) (a .fraction) (a .curve))
     ∙ ap (λ (l : List ℕ). putAt l rowLength (floatBytes (x 2048))) (z .loop .inv .2 ∙ ap (λ (k : ℕ). putAt (now (a .row)) 0 (rows r k)) end)
-    ∙ one-more r 4 (length-entry x) (now (a .row)) 2048 (omega (arith, s .pre .0))
-    ∙ all-put r 4 (length-entry x) (now (a .row)) 2049 (s .pre .0)
+    ∙ front-more r 4 (λ k. length-floatBytes (x k)) (now (a .row)) 2048 (omega (arith, s .pre .0))
+    ∙ front-all r 4 (λ k. length-floatBytes (x k)) (now (a .row)) 2049 (s .pre .0)
 
 pub blend-rows-spec : {M : Type 1} → statement M
 blend-rows-spec =

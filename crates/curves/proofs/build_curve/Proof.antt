@@ -1,6 +1,7 @@
 use mathlib.Core.Path.{_∙_}
 use Prim.Native.Nat.{ℕ, _≤_}
 use denote.Ref.{now}
+use Rattle.curves.specs.Sampling.{lastBase}
 use Rattle.curves.specs.Inner.{tableRowOf, UsableRow}
 use Rattle.curves.proofs.Laws.{load-lower, load-upper}
 use Rattle.curves.proofs.Building.{row-usable, blends-curve}
@@ -15,10 +16,10 @@ load-position-requires : tie.Need-load-position-requires
 load-position-requires c κs = search needs
 
 -- the rows of the two loads lie in the surface, and their entries are usable
-inside : (c : tie.After-load-position) → (c .load-position .result .«lower_base» ≤ 294912) × (c .load-position .result .«upper_base» ≤ 294912)
+inside : (c : tie.After-load-position) → (c .load-position .result .«lower_base» ≤ lastBase) × (c .load-position .result .«upper_base» ≤ lastBase)
 inside c = rw (c .load-position .ensures) (load-lower (c .before .curve-load .result), load-upper (c .before .curve-load .result))
 
-usable-row : (c : tie.After-load-position) (base : ℕ) → base ≤ 294912 → UsableRow (tableRowOf (now (c .before .before .before .before .args .bundle)) base)
+usable-row : (c : tie.After-load-position) (base : ℕ) → base ≤ lastBase → UsableRow (tableRowOf (now (c .before .before .before .before .args .bundle)) base)
 usable-row c base h = let b = c .before .before .before .before .pre .0 in row-usable _ (b .long) base h (b .judged)
 
 table-row-requires : tie.Need-table-row-requires
@@ -44,7 +45,8 @@ returns c =
     let z = t .before .before .before .before in
     let s = z .before .before .before .before in
     t .blend-rows .ensures
-    ∙ simp (t .before .table-row2 .ensures, t .before .before .table-row .ensures, z .load-position .ensures, z .before .curve-load .ensures) (blends-curve (now (s .args .bundle)) (s .pre .0 .long) (s .args .curve))
+    ∙ simp (t .before .table-row2 .ensures, t .before .before .table-row .ensures, z .load-position .ensures, z .before .curve-load .ensures)
+    (blends-curve (now (s .args .bundle)) (s .pre .0 .long) (s .args .curve))
 
 pub build-curve-spec : {M : Type 1} → statement M
 build-curve-spec =

@@ -1,7 +1,7 @@
 -- The invariant: the curves so far stand at the front of the buffer.
 use borrow.Rule.Slice.PartMut.{putMid}
-use Rattle.wire.proofs.Laws.{length-part, length-putAt}
-use Rattle.curves.proofs.Building.{none-put, one-more, all-put, put-part, length-curve}
+use Rattle.wire.proofs.Laws.{length-part, length-putAt, front-none, front-more, front-all}
+use Rattle.curves.proofs.Building.{put-part, length-curve}
 use Prim.Native.Nat.{ℕ, _+_, _-_, _*_, _≤_}
 use mathlib.Core.Path.{_≡_, refl, ap, _∙_}
 use mathlib.Core.List.{List}
@@ -21,7 +21,7 @@ abbrev μ-loop : tie.MeasureT-loop
 μ-loop bundle curves₀ curve₀ curves curve = 31 - curve
 
 loop-holds : tie.Need-loop-holds Inv-loop μ-loop
-loop-holds c = let a = c .before .before .args in (search needs, refl, none-put (buildCurveOf (now (a .bundle))) curveLength (length-curve (now (a .bundle))) (now (a .curves)))
+loop-holds c = let a = c .before .before .args in (search needs, refl, front-none (buildCurveOf (now (a .bundle))) curveLength (length-curve (now (a .bundle))) (now (a .curves)))
 
 cast-from : tie.Need-cast-from Inv-loop μ-loop
 cast-from c = search needs
@@ -68,7 +68,7 @@ loop-again c =
     ap (putMid from (from + curveLength - from) (z .loop .curves)) (p .build-curve .ensures)
     ∙ put-part from curveLength (z .loop .curves) (r k) (length-curve (now (a .bundle)) k) (omega (arith, s .pre .1))
     ∙ ap (λ (l : List ℕ). putAt l from (r k)) (z .loop .inv .2)
-    ∙ one-more r curveLength (length-curve (now (a .bundle))) (now (a .curves)) k (omega (arith, s .pre .1)) in
+    ∙ front-more r curveLength (length-curve (now (a .bundle))) (now (a .curves)) k (omega (arith, s .pre .1)) in
     (search needs, ap length told ∙ length-putAt (now (a .curves)) 0 (rows r (k + 1)), told)
 
 same-length : tie.Need-same-length Inv-loop μ-loop
@@ -82,7 +82,7 @@ returns c =
     let a = s .args in
     let r = buildCurveOf (now (a .bundle)) in
     let end : z .loop .curve ≡ 31 = omega arith in
-    z .loop .inv .2 ∙ ap (λ (k : ℕ). putAt (now (a .curves)) 0 (rows r k)) end ∙ all-put r curveLength (length-curve (now (a .bundle))) (now (a .curves)) 31 (s .pre .1)
+    z .loop .inv .2 ∙ ap (λ (k : ℕ). putAt (now (a .curves)) 0 (rows r k)) end ∙ front-all r curveLength (length-curve (now (a .bundle))) (now (a .curves)) 31 (s .pre .1)
 
 pub build-curves-spec : {M : Type 1} → statement M
 build-curves-spec =

@@ -1,5 +1,3 @@
-use native.Mathlib.Omega.{arith}
-use Rattle.floats.proofs.Range.{curve-index}
 use Rattle.curves.specs.Sampling.{inputPositionOf}
 use borrow.Author.Needs.{needs}
 use Rattle.curves.proofs.input_position.Statement.{statement}
@@ -9,7 +7,7 @@ clamp-requires : tie.Need-clamp-requires
 clamp-requires c κs = search needs
 
 table-position-requires : tie.Need-table-position-requires
-table-position-requires c κs = (rw (c .clamp .ensures) (curve-index (c .before .args .input)), omega arith)
+table-position-requires c κs = search needs
 
 returns : tie.Need-returns
 unfolding inputPositionOf

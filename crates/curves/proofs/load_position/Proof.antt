@@ -9,7 +9,7 @@ clamp-requires : tie.Need-clamp-requires
 clamp-requires c κs = search needs
 
 table-position-requires : tie.Need-table-position-requires
-table-position-requires c κs = (rw (c .clamp .ensures) (load-index (c .before .args .conductance)), omega arith)
+table-position-requires c κs = search needs
 
 mul-t7 : tie.Need-mul-t7
 mul-t7 c = let z = c .before in rw (z .table-position .ensures, z .before .clamp .ensures) (omega (arith, load-index (z .before .before .args .conductance)))

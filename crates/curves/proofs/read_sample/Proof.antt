@@ -1,13 +1,8 @@
 use mathlib.Core.Path.{sym, _∙_}
-use mathlib.Core.List.{[], _∷_}
-use Prim.Native.Nat.{_≤_, _+_}
-use native.Mathlib.Omega.{arith}
 use denote.Ref.{now}
-use Rattle.answers.specs.declared.Buffer.the-variants.{Bundle}
-use Rattle.bundle.proofs.Laws.{judge-append}
 use Rattle.bundle.proofs.Reading.{first-refused, second-refused, both-read}
 use Rattle.response.specs.Levels.{interpolateOf}
-use Rattle.curves.specs.Sampling.{tablePlace, sampleOf, sampleAtOf, samplePlacesOf, cornersOf}
+use Rattle.curves.specs.Sampling.{sampleOf, sampleAtOf, samplePlacesOf}
 use Rattle.curves.proofs.Laws.{load-lower, load-upper, input-lower, input-upper, corners-apart}
 use borrow.Author.Needs.{needs}
 use Rattle.curves.proofs.read_sample.Statement.{statement}
@@ -60,7 +55,8 @@ returns-2 c =
     let r = s .before .before .before .before in
     let p = r .before in
     let a = p .before .before .before .args in
-    rw (← p .before .load-position .ensures, ← p .input-position .ensures, corners-apart (now (a .bundle))) (second-refused _ _ _ _ _ (sym (s .before .before .lower2 .given .1) ∙ r .read-row .ensures) (sym (c .before .upper .given .1) ∙ s .read-row2 .ensures))
+    rw (← p .before .load-position .ensures, ← p .input-position .ensures, corners-apart (now (a .bundle)))
+    (second-refused _ _ _ _ _ (sym (s .before .before .lower2 .given .1) ∙ r .read-row .ensures) (sym (c .before .upper .given .1) ∙ s .read-row2 .ensures))
 
 returns-3 : tie.Need-returns-3
 unfolding sampleOf sampleAtOf samplePlacesOf
@@ -70,7 +66,8 @@ returns-3 c =
     let p = r .before in
     let a = p .before .before .before .args in
     let load = p .before .load-position .result in
-    rw (← p .before .load-position .ensures, ← p .input-position .ensures, corners-apart (now (a .bundle)), c .interpolate .ensures) (both-read _ _ _ _ (λ x y. interpolateOf x y (load .fraction)) (sym (s .before .before .lower2 .given .1) ∙ r .read-row .ensures) (sym (c .before .before .upper2 .given .1) ∙ s .read-row2 .ensures))
+    rw (← p .before .load-position .ensures, ← p .input-position .ensures, corners-apart (now (a .bundle)), c .interpolate .ensures)
+    (both-read _ _ _ _ (λ x y. interpolateOf x y (load .fraction)) (sym (s .before .before .lower2 .given .1) ∙ r .read-row .ensures) (sym (c .before .before .upper2 .given .1) ∙ s .read-row2 .ensures))
 
 pub read-sample-spec : {M : Type 1} → statement M
 read-sample-spec =

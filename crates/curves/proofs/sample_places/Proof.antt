@@ -1,4 +1,4 @@
-use Rattle.curves.specs.Sampling.{samplePlacesOf, cornersOf}
+use Rattle.curves.specs.Sampling.{lastInput, lastBase, samplePlacesOf, cornersOf}
 use Rattle.curves.proofs.Laws.{load-lower, load-upper, input-lower, input-upper}
 use Prim.Native.Nat.{_≤_}
 use native.Mathlib.Omega.{arith}
@@ -14,7 +14,8 @@ input-position-requires c κs = search needs
 
 -- the bases and the indexes lie in the surface
 inside : (c : tie.After-input-position)
-    → (c .before .load-position .result .«lower_base» ≤ 294912) × (c .before .load-position .result .«upper_base» ≤ 294912) × (c .input-position .result .lower ≤ 2047) × (c .input-position .result .upper ≤ 2047)
+    → (c .before .load-position .result .«lower_base» ≤ lastBase) × (c .before .load-position .result .«upper_base» ≤ lastBase)
+    × (c .input-position .result .lower ≤ lastInput) × (c .input-position .result .upper ≤ lastInput)
 inside c =
     let a = c .before .before .args in
     rw (c .before .load-position .ensures, c .input-position .ensures) (load-lower (a .conductance), load-upper (a .conductance), input-lower (a .input), input-upper (a .input))
@@ -33,7 +34,10 @@ table-place-requires-4 c κs = omega (arith, inside (c .before .before .before))
 
 returns : tie.Need-returns
 unfolding samplePlacesOf cornersOf
-returns c = let z = c .before .before .before .before in simp (c .table-place4 .ensures, c .before .table-place3 .ensures, c .before .before .table-place2 .ensures, c .before .before .before .table-place .ensures, z .input-position .ensures, z .before .load-position .ensures)
+returns c =
+    let y = c .before .before in
+    let z = y .before .before in
+    simp (c .table-place4 .ensures, c .before .table-place3 .ensures, y .table-place2 .ensures, y .before .table-place .ensures, z .input-position .ensures, z .before .load-position .ensures)
 
 pub sample-places-spec : {M : Type 1} → statement M
 sample-places-spec =

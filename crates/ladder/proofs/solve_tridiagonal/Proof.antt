@@ -25,7 +25,8 @@ returns : tie.Need-returns
 unfolding solveTridiagonalOf
 returns c =
     let f = c .before .before in
-    simp (c .settle-nodes .ensures, c .before .solve .ensures, f .all-finite4 .ensures, f .before .all-finite3 .ensures, f .before .before .all-finite2 .ensures, f .before .before .before .all-finite .ensures)
+    let g = f .before .before in
+    simp (c .settle-nodes .ensures, c .before .solve .ensures, f .all-finite4 .ensures, f .before .all-finite3 .ensures, g .all-finite2 .ensures, g .before .all-finite .ensures)
 
 pub solve-tridiagonal-spec : {M : Type 1} → statement M
 solve-tridiagonal-spec =

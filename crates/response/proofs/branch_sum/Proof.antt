@@ -32,7 +32,9 @@ add-if-requires-4 c κs = search needs
 
 returns : tie.Need-returns
 unfolding branchSumOf
-returns c = simp (c .add-if4 .ensures, c .before .add-if3 .ensures, c .before .before .add-if2 .ensures, c .before .before .before .add-if .ensures, c .before .before .before .before .volume-dac-branch-weights .ensures)
+returns c =
+    let z = c .before .before .before in
+    simp (c .add-if4 .ensures, c .before .add-if3 .ensures, c .before .before .add-if2 .ensures, z .add-if .ensures, z .before .volume-dac-branch-weights .ensures)
 
 pub branch-sum-spec : {M : Type 1} → statement M
 branch-sum-spec =

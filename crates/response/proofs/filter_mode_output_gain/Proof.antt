@@ -6,8 +6,8 @@ use Rattle.response.proofs.filter_mode_output_gain.Tie as tie
 cutoff-position-requires : tie.Need-cutoff-position-requires
 cutoff-position-requires c κs = search needs
 
-high-resonance-requires : tie.Need-high-resonance-requires
-high-resonance-requires c κs = search needs
+resonance-position-requires : tie.Need-resonance-position-requires
+resonance-position-requires c κs = search needs
 
 base-gain-requires : tie.Need-base-gain-requires
 base-gain-requires c κs = search needs
@@ -18,8 +18,8 @@ low-band-lift-requires c κs = search needs
 bandpass-trim-requires : tie.Need-bandpass-trim-requires
 bandpass-trim-requires c κs = search needs
 
-in-high-mode-requires : tie.Need-in-high-mode-requires
-in-high-mode-requires c κs = search needs
+highpass-loading-requires : tie.Need-highpass-loading-requires
+highpass-loading-requires c κs = search needs
 
 highpass-resonance-trim-requires : tie.Need-highpass-resonance-trim-requires
 highpass-resonance-trim-requires c κs = search needs
@@ -33,11 +33,11 @@ returns c =
     simp (
       c .single-mode-loading .ensures,
       c .before .highpass-resonance-trim .ensures,
-      c .before .before .in-high-mode .ensures,
+      c .before .before .highpass-loading .ensures,
       c .before .before .before .bandpass-trim .ensures,
       c .before .before .before .before .low-band-lift .ensures,
       c .before .before .before .before .before .base-gain .ensures,
-      c .before .before .before .before .before .before .high-resonance .ensures,
+      c .before .before .before .before .before .before .resonance-position .ensures,
       c .before .before .before .before .before .before .before .cutoff-position .ensures,
     )
 
@@ -46,11 +46,11 @@ filter-mode-output-gain-spec =
     tie.close
     (tie.spec
     cutoff-position-requires
-    high-resonance-requires
+    resonance-position-requires
     base-gain-requires
     low-band-lift-requires
     bandpass-trim-requires
-    in-high-mode-requires
+    highpass-loading-requires
     highpass-resonance-trim-requires
     single-mode-loading-requires
     returns)

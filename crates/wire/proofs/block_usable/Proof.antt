@@ -5,8 +5,8 @@ use native.Mathlib.Omega.{arith}
 use native.Mathlib.Numerals.{add-one}
 use borrow.Author.Tests.{le-leb, lt-leb}
 use borrow.Author.Needs.{needs}
-use Rattle.wire.specs.Wire.{usableOf}
-use Rattle.wire.specs.First.{usableEntry, every, blockUsableOf}
+use Rattle.wire.specs.First.{every, usableEntry}
+use Rattle.wire.specs.Inner.{blockUsableOf}
 use Rattle.wire.proofs.block_usable.Statement.{statement}
 use Rattle.wire.proofs.block_usable.Tie as tie
 

@@ -96,7 +96,28 @@ word-requires-16 : tie.Need-word-requires-16
 word-requires-16 c κs = search needs
 
 returns : tie.Need-returns
-returns c = simp (c .word16 .ensures, c .before .word15 .ensures, c .before .before .word14 .ensures, c .before .before .before .word13 .ensures, c .before .before .before .before .word12 .ensures, c .before .before .before .before .before .word11 .ensures, c .before .before .before .before .before .before .word10 .ensures, c .before .before .before .before .before .before .before .word9 .ensures, c .before .before .before .before .before .before .before .before .word8 .ensures, c .before .before .before .before .before .before .before .before .before .word7 .ensures, c .before .before .before .before .before .before .before .before .before .before .word6 .ensures, c .before .before .before .before .before .before .before .before .before .before .before .word5 .ensures, c .before .before .before .before .before .before .before .before .before .before .before .before .word4 .ensures, c .before .before .before .before .before .before .before .before .before .before .before .before .before .word3 .ensures, c .before .before .before .before .before .before .before .before .before .before .before .before .before .before .word2 .ensures, c .before .before .before .before .before .before .before .before .before .before .before .before .before .before .before .word .ensures)
+returns c =
+    let l = c .before .before .before .before in
+    let h = l .before .before .before .before in
+    let f = h .before .before .before .before in
+    simp (
+      c .word16 .ensures,
+      c .before .word15 .ensures,
+      c .before .before .word14 .ensures,
+      c .before .before .before .word13 .ensures,
+      l .word12 .ensures,
+      l .before .word11 .ensures,
+      l .before .before .word10 .ensures,
+      l .before .before .before .word9 .ensures,
+      h .word8 .ensures,
+      h .before .word7 .ensures,
+      h .before .before .word6 .ensures,
+      h .before .before .before .word5 .ensures,
+      f .word4 .ensures,
+      f .before .word3 .ensures,
+      f .before .before .word2 .ensures,
+      f .before .before .before .word .ensures,
+    )
 
 pub sixteen-spec : {M : Type 1} → statement M
 sixteen-spec =

@@ -1,148 +1,82 @@
+-- The invariant: the first i words are those at their places.
+use Prim.Native.Nat.{ℕ, _+_, _-_, _*_, _≤_, _<_}
+use mathlib.Core.Path.{_≡_, refl, _∙_}
+use native.Mathlib.Omega.{arith}
+use lib.ListN.{length, getD, length-set}
+use borrow.Author.Count.{below-none}
 use borrow.Author.Needs.{needs}
+use Rattle.wire.specs.Wire.{u32At}
+use Rattle.wire.proofs.Sixteens.{word-stored, by-places}
 use Rattle.wire.proofs.sixteen_at.Statement.{statement}
 use Rattle.wire.proofs.sixteen_at.Tie as tie
 
-sub-if2 : tie.Need-sub-if2
+abbrev Inv-loop : tie.InvT-loop
+Inv-loop s place p words₀ i₀ words i = (i ≤ 16) × (length words ≡ 16) × ((k : ℕ) → k < i → getD words k 0 ≡ u32At s (p + 4 * k))
+
+abbrev μ-loop : tie.MeasureT-loop
+μ-loop s place p words₀ i₀ words i = 16 - i
+
+sub-if2 : tie.Need-sub-if2 Inv-loop μ-loop
 sub-if2 c = search needs
 
-sixteen-requires : tie.Need-sixteen-requires
+sixteen-requires : tie.Need-sixteen-requires Inv-loop μ-loop
 sixteen-requires c κs = search needs
 
-returns : tie.Need-returns
+returns : tie.Need-returns Inv-loop μ-loop
 returns c = search needs
 
-u32-at-requires : tie.Need-u32-at-requires
-u32-at-requires c κs = search needs
+loop-holds : tie.Need-loop-holds Inv-loop μ-loop
+loop-holds c = (search needs, refl, below-none _)
 
-add-u32-at : tie.Need-add-u32-at
+mul-u32-at : tie.Need-mul-u32-at Inv-loop μ-loop
+mul-u32-at c = search needs
+
+add-u32-at : tie.Need-add-u32-at Inv-loop μ-loop
 add-u32-at c = search needs
 
-u32-at-requires-2 : tie.Need-u32-at-requires-2
-u32-at-requires-2 c κs = search needs
+u32-at-requires : tie.Need-u32-at-requires Inv-loop μ-loop
+u32-at-requires c κs = search needs
 
-add-u32-at-2 : tie.Need-add-u32-at-2
-add-u32-at-2 c = search needs
+mul-words : tie.Need-mul-words Inv-loop μ-loop
+mul-words c = search needs
 
-u32-at-requires-3 : tie.Need-u32-at-requires-3
-u32-at-requires-3 c κs = search needs
+array-write-words : tie.Need-array-write-words Inv-loop μ-loop
+array-write-words c = search needs
 
-add-u32-at-3 : tie.Need-add-u32-at-3
-add-u32-at-3 c = search needs
+add-i : tie.Need-add-i Inv-loop μ-loop
+add-i c = search needs
 
-u32-at-requires-4 : tie.Need-u32-at-requires-4
-u32-at-requires-4 c κs = search needs
+loop-less : tie.Need-loop-less Inv-loop μ-loop
+loop-less c = search needs
 
-add-u32-at-4 : tie.Need-add-u32-at-4
-add-u32-at-4 c = search needs
+loop-again : tie.Need-loop-again Inv-loop μ-loop
+loop-again c =
+    let l = c .before .before in
+    let ws = l .loop .words in
+    (search needs, length-set ws (l .loop .i) _ ∙ l .loop .inv .1, word-stored _ _ ws (l .loop .i) _ (omega arith) (c .u32-at .ensures) (l .loop .inv .2))
 
-u32-at-requires-5 : tie.Need-u32-at-requires-5
-u32-at-requires-5 c κs = search needs
-
-add-u32-at-5 : tie.Need-add-u32-at-5
-add-u32-at-5 c = search needs
-
-u32-at-requires-6 : tie.Need-u32-at-requires-6
-u32-at-requires-6 c κs = search needs
-
-add-u32-at-6 : tie.Need-add-u32-at-6
-add-u32-at-6 c = search needs
-
-u32-at-requires-7 : tie.Need-u32-at-requires-7
-u32-at-requires-7 c κs = search needs
-
-add-u32-at-7 : tie.Need-add-u32-at-7
-add-u32-at-7 c = search needs
-
-u32-at-requires-8 : tie.Need-u32-at-requires-8
-u32-at-requires-8 c κs = search needs
-
-add-u32-at-8 : tie.Need-add-u32-at-8
-add-u32-at-8 c = search needs
-
-u32-at-requires-9 : tie.Need-u32-at-requires-9
-u32-at-requires-9 c κs = search needs
-
-add-u32-at-9 : tie.Need-add-u32-at-9
-add-u32-at-9 c = search needs
-
-u32-at-requires-10 : tie.Need-u32-at-requires-10
-u32-at-requires-10 c κs = search needs
-
-add-u32-at-10 : tie.Need-add-u32-at-10
-add-u32-at-10 c = search needs
-
-u32-at-requires-11 : tie.Need-u32-at-requires-11
-u32-at-requires-11 c κs = search needs
-
-add-u32-at-11 : tie.Need-add-u32-at-11
-add-u32-at-11 c = search needs
-
-u32-at-requires-12 : tie.Need-u32-at-requires-12
-u32-at-requires-12 c κs = search needs
-
-add-u32-at-12 : tie.Need-add-u32-at-12
-add-u32-at-12 c = search needs
-
-u32-at-requires-13 : tie.Need-u32-at-requires-13
-u32-at-requires-13 c κs = search needs
-
-add-u32-at-13 : tie.Need-add-u32-at-13
-add-u32-at-13 c = search needs
-
-u32-at-requires-14 : tie.Need-u32-at-requires-14
-u32-at-requires-14 c κs = search needs
-
-add-u32-at-14 : tie.Need-add-u32-at-14
-add-u32-at-14 c = search needs
-
-u32-at-requires-15 : tie.Need-u32-at-requires-15
-u32-at-requires-15 c κs = search needs
-
-add-u32-at-15 : tie.Need-add-u32-at-15
-add-u32-at-15 c = search needs
-
-u32-at-requires-16 : tie.Need-u32-at-requires-16
-u32-at-requires-16 c κs = search needs
-
-returns-2 : tie.Need-returns-2
-returns-2 c = simp (c .u32-at16 .ensures, c .before .u32-at15 .ensures, c .before .before .u32-at14 .ensures, c .before .before .before .u32-at13 .ensures, c .before .before .before .before .u32-at12 .ensures, c .before .before .before .before .before .u32-at11 .ensures, c .before .before .before .before .before .before .u32-at10 .ensures, c .before .before .before .before .before .before .before .u32-at9 .ensures, c .before .before .before .before .before .before .before .before .u32-at8 .ensures, c .before .before .before .before .before .before .before .before .before .u32-at7 .ensures, c .before .before .before .before .before .before .before .before .before .before .u32-at6 .ensures, c .before .before .before .before .before .before .before .before .before .before .before .u32-at5 .ensures, c .before .before .before .before .before .before .before .before .before .before .before .before .u32-at4 .ensures, c .before .before .before .before .before .before .before .before .before .before .before .before .before .u32-at3 .ensures, c .before .before .before .before .before .before .before .before .before .before .before .before .before .before .u32-at2 .ensures, c .before .before .before .before .before .before .before .before .before .before .before .before .before .before .before .u32-at .ensures)
+returns-2 : tie.Need-returns-2 Inv-loop μ-loop
+returns-2 c =
+    let l = c .before in
+    let end : l .loop .i ≡ 16 = omega arith in
+    by-places _ _ (l .loop .words) (l .loop .inv .1) (rw end at (l .loop .inv .2))
 
 pub sixteen-at-spec : {M : Type 1} → statement M
 sixteen-at-spec =
     tie.close
     (tie.spec
+    Inv-loop
+    μ-loop
     sub-if2
     sixteen-requires
     returns
-    u32-at-requires
+    loop-holds
+    mul-u32-at
     add-u32-at
-    u32-at-requires-2
-    add-u32-at-2
-    u32-at-requires-3
-    add-u32-at-3
-    u32-at-requires-4
-    add-u32-at-4
-    u32-at-requires-5
-    add-u32-at-5
-    u32-at-requires-6
-    add-u32-at-6
-    u32-at-requires-7
-    add-u32-at-7
-    u32-at-requires-8
-    add-u32-at-8
-    u32-at-requires-9
-    add-u32-at-9
-    u32-at-requires-10
-    add-u32-at-10
-    u32-at-requires-11
-    add-u32-at-11
-    u32-at-requires-12
-    add-u32-at-12
-    u32-at-requires-13
-    add-u32-at-13
-    u32-at-requires-14
-    add-u32-at-14
-    u32-at-requires-15
-    add-u32-at-15
-    u32-at-requires-16
+    u32-at-requires
+    mul-words
+    array-write-words
+    add-i
+    loop-less
+    loop-again
     returns-2)

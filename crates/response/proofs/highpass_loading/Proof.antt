@@ -1,7 +1,7 @@
 use borrow.Author.Tests.{eq-eqb, ne-eqb}
 use Rattle.response.specs.Gain.{highpassLoadingOf}
-use Rattle.response.proofs.in_high_mode.Statement.{statement}
-use Rattle.response.proofs.in_high_mode.Tie as tie
+use Rattle.response.proofs.highpass_loading.Statement.{statement}
+use Rattle.response.proofs.highpass_loading.Tie as tie
 
 returns : tie.Need-returns
 unfolding highpassLoadingOf
@@ -11,5 +11,5 @@ returns-2 : tie.Need-returns-2
 unfolding highpassLoadingOf
 returns-2 c = simp (ne-eqb _ _ (c .if1 .left))
 
-pub in-high-mode-spec : {M : Type 1} → statement M
-in-high-mode-spec = tie.close (tie.spec returns returns-2)
+pub highpass-loading-spec : {M : Type 1} → statement M
+highpass-loading-spec = tie.close (tie.spec returns returns-2)
