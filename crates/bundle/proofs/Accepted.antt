@@ -15,34 +15,34 @@ use Rattle.answers.proofs.Laws.{first-done, unless-done}
 use Rattle.wire.specs.Wire.{bytesOf, usableAt}
 use Rattle.wire.specs.First.{firstUnusableOf}
 use Rattle.wire.proofs.First.{first-before, first-is, none-unusable, all-usable}
-use Rattle.bundle.specs.Layout.{Section, sections, everyEntry, analogueSurface, bundleLength, words, header, entryPlace}
+use Rattle.bundle.specs.Layout.{Section, sections, everyEntry, analogueSurface, bundleLength, headerLength, words, header, entryPlace}
 use Rattle.bundle.specs.Opening.{headerByte, firstDifference, checkOf, judgeSectionOf, openOf, Accepted}
 
 -- ---- the header
 
-header-long : length header ≡ 56
+header-long : length header ≡ headerLength
 unfolding header words bytesOf
 header-long = refl
 
 module _ (bundle : List ℕ) where
-  pub check-done : checkOf bundle ≡ Done → (length bundle ≡ bundleLength) × (take 56 bundle ≡ header)
+  pub check-done : checkOf bundle ≡ Done → (length bundle ≡ bundleLength) × (take headerLength bundle ≡ header)
   unfolding checkOf headerByte
   check-done d =
-      let both = first-done (unlessOf (eqb (length bundle) bundleLength) BundleLength) (unlessOf (leb 56 (firstDifference bundle)) (Header (firstDifference bundle))) d in
+      let both = first-done (unlessOf (eqb (length bundle) bundleLength) BundleLength) (unlessOf (leb headerLength (firstDifference bundle)) (Header (firstDifference bundle))) d in
       let long : length bundle ≡ bundleLength = eqb-true _ _ (unless-done (eqb (length bundle) bundleLength) BundleLength refl (both .0)) in
-      let all : 56 ≤ firstDifference bundle = leb-true _ _ (unless-done (leb 56 (firstDifference bundle)) (Header (firstDifference bundle)) refl (both .1)) in
-      let front : length (take 56 bundle) ≡ 56 = length-take-le 56 bundle (omega arith) in (
+      let all : headerLength ≤ firstDifference bundle = leb-true _ _ (unless-done (leb headerLength (firstDifference bundle)) (Header (firstDifference bundle)) refl (both .1)) in
+      let front : length (take headerLength bundle) ≡ headerLength = length-take-le headerLength bundle (omega arith) in (
         long,
-        ext-getD 0 (take 56 bundle) header (front ∙ sym header-long)
-            (λ (k : ℕ) l. getD-take 56 bundle k 0 (omega arith) ∙ eqb-true _ _ (first-before (headerByte bundle) 56 0 k (omega arith) (omega arith))),
+        ext-getD 0 (take headerLength bundle) header (front ∙ sym header-long)
+            (λ (k : ℕ) l. getD-take headerLength bundle k 0 (omega arith) ∙ eqb-true _ _ (first-before (headerByte bundle) headerLength 0 k (omega arith) (omega arith))),
       )
 
-  pub check-passes : length bundle ≡ bundleLength → take 56 bundle ≡ header → checkOf bundle ≡ Done
+  pub check-passes : length bundle ≡ bundleLength → take headerLength bundle ≡ header → checkOf bundle ≡ Done
   unfolding checkOf headerByte
   check-passes long fixed =
-      let none : firstDifference bundle ≡ 56 =
-      first-is (headerByte bundle) 56 0 56 (omega arith) (omega arith)
-      (λ (k : ℕ) _ l. eq-eqb _ _ (sym (getD-take 56 bundle k 0 l) ∙ ap (λ (s : List ℕ). getD s k 0) fixed))
+      let none : firstDifference bundle ≡ headerLength =
+      first-is (headerByte bundle) headerLength 0 headerLength (omega arith) (omega arith)
+      (λ (k : ℕ) _ l. eq-eqb _ _ (sym (getD-take headerLength bundle k 0 l) ∙ ap (λ (s : List ℕ). getD s k 0) fixed))
       (λ l. absurd (omega arith)) in
       rw (eq-eqb _ _ long, none)
 
@@ -80,11 +80,11 @@ abbrev pub Adjoin : ℕ → List Section → Type 0
 Adjoin from [] = from ≡ bundleLength
 Adjoin from (section ∷ rest) = (section .offset ≡ from) × Adjoin (from + 4 * section .count) rest
 
-pub sections-adjoin : Adjoin 56 sections
+pub sections-adjoin : Adjoin headerLength sections
 sections-adjoin = (refl, (refl, (refl, (refl, (refl, (refl, refl))))))
 
 -- So an accepted bundle has only usable entries in each section, one that begins after the first skipped entries of all.
-pub section-usable : (bundle : List ℕ) → Accepted bundle → (section : Section) (skipped : ℕ) → section .offset ≡ 56 + 4 * skipped → skipped + section .count ≤ everyEntry .count
+pub section-usable : (bundle : List ℕ) → Accepted bundle → (section : Section) (skipped : ℕ) → section .offset ≡ headerLength + 4 * skipped → skipped + section .count ≤ everyEntry .count
     → (k : ℕ) → k < section .count → usableAt bundle (entryPlace section k) ≡ true
 section-usable bundle a section skipped e h k l =
     let q : entryPlace everyEntry (skipped + k) ≡ entryPlace section k = omega arith in

@@ -1,10 +1,9 @@
 -- Reading one thing and then another: both values, or the first refusal. Assumes nothing.
-use mathlib.Core.Path.{_≡_, refl, sym, _∙_}
+use mathlib.Core.Path.{_≡_, refl}
 use mathlib.Core.Bool.{Bool, true, false}
 use lib.Ieee.{Float}
 use Rattle.answers.specs.declared.Answer.{Answer}
 use Rattle.answers.specs.Answers.{isDoneOf, firstOf, unlessOf}
-use Rattle.bundle.specs.declared.Read.{Read}
 use Rattle.bundle.specs.declared.Read.the-variants.{Value, Refused}
 use Rattle.bundle.specs.Reading.{readOf}
 

@@ -30,12 +30,15 @@ directionalPower = record { offset = 3301496; count = 706560 }
 abbrev pub sections : List Section
 sections = integratorGain ∷ damping ∷ sourceGainModulation ∷ analogueSurface ∷ highpassLoading ∷ directionalPower ∷ []
 
--- All bytes of a bundle, and all its entries: the sections follow the header of 56 bytes in order, without gaps.
+-- All bytes of a bundle, those of its header, and all its entries: the sections follow the header in order, without gaps.
 abbrev pub bundleLength : ℕ
 bundleLength = 6127736
 
+abbrev pub headerLength : ℕ
+headerLength = 56
+
 abbrev pub everyEntry : Section
-everyEntry = record { offset = 56; count = 1531920 }
+everyEntry = record { offset = headerLength; count = 1531920 }
 
 -- ---- the header: the total length, the section count, then the byte offset and the entry count of each section
 

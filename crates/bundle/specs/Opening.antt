@@ -13,7 +13,7 @@ use Rattle.answers.specs.declared.Answer.the-variants.{Done, BundleLength, Head
 use Rattle.answers.specs.Answers.{firstOf, unlessOf}
 use Rattle.wire.specs.Wire.{byteAt, f32At, usableAt}
 use Rattle.wire.specs.First.{first, firstUnusableOf}
-use Rattle.bundle.specs.Layout.{Section, everyEntry, bundleLength, header, entryPlace}
+use Rattle.bundle.specs.Layout.{Section, everyEntry, bundleLength, headerLength, header, entryPlace}
 
 -- The float of the entry at a place. One that is unusable reads as the float that it is, and one past the end as 0.
 abbrev pub entryAt : List ℕ → ℕ → Float
@@ -25,14 +25,14 @@ entryAt bundle place = f32At bundle place
 unfoldable pub headerByte : List ℕ → ℕ → Bool
 headerByte bundle k = eqb (byteAt bundle k) (getD header k 0)
 
--- The first byte of the 56 that is not the header's, and 56 where each is.
+-- The first byte that is not the header's, and the header's length where each is.
 abbrev pub firstDifference : List ℕ → ℕ
-firstDifference bundle = first (headerByte bundle) 56 0
+firstDifference bundle = first (headerByte bundle) headerLength 0
 
 unfoldable pub checkOf : List ℕ → Answer
 checkOf bundle =
     firstOf (unlessOf (eqb (length bundle) bundleLength) BundleLength)
-    (unlessOf (leb 56 (firstDifference bundle)) (Header (firstDifference bundle)))
+    (unlessOf (leb headerLength (firstDifference bundle)) (Header (firstDifference bundle)))
 
 -- ---- entries
 
@@ -55,5 +55,5 @@ openOf bundle = firstOf (checkOf bundle) (judgeSectionOf bundle everyEntry)
 -- An accepted bundle (document 01): the fixed header, and only usable entries.
 pub record Accepted (bundle : List ℕ) : Type 0 where
   pub long : length bundle ≡ bundleLength
-  pub fixed : take 56 bundle ≡ header
+  pub fixed : take headerLength bundle ≡ header
   pub usable : (index : ℕ) → index < everyEntry .count → usableAt bundle (entryPlace everyEntry index) ≡ true

@@ -3,29 +3,62 @@ ghost use mathlib.Core.Path.{_≡_};
 ghost use Prim.Native.Nat.{ℕ, _+_, _*_, _≤_, _<_};
 ghost use mathlib.Core.Bool.{true};
 ghost use lib.ListN.{getD};
-ghost use Rattle.bundle.specs.Layout.{integratorGainPlace, dampingPlace, sourceGainModulationPlace, highpassLoadingPlace, displacementIndexOf, directionalPowerPlace, analogueSurface, bundleLength, sections, pairs, header};
+ghost use Rattle.bundle.specs.Layout.{integratorGainPlace, dampingPlace, sourceGainModulationPlace, highpassLoadingPlace, displacementIndexOf, directionalPowerPlace};
+ghost use Rattle.bundle.specs.Layout.{analogueSurface, bundleLength, headerLength, sections, pairs, header};
 ghost use mathlib.Core.List.{[], _∷_};
 ghost use Rattle.bundle.specs.Reading.{readOf};
 ghost use Rattle.bundle.specs.Opening.{entryAt, headerByte, firstDifference, checkOf, judgePlacesOf, judgeSectionOf, openOf};
 use answers::Answer;
 use answers::Buffer;
 
+// All bytes of a bundle, those of its header, and the entries of four bytes that fill the rest.
+pub const BYTES: usize = 6_127_736;
+
+const HEADER_BYTES: u32 = 56;
+
+const ENTRIES: usize = 1_531_920;
+
+// The byte that each section begins at, and its entries.
+const INTEGRATOR_GAIN_OFFSET: u32 = 56;
+
+const INTEGRATOR_GAIN_COUNT: u32 = 524_288;
+
+const DAMPING_OFFSET: u32 = 2_097_208;
+
+const DAMPING_COUNT: u32 = 16;
+
+const SOURCE_GAIN_MODULATION_OFFSET: u32 = 2_097_272;
+
+const SOURCE_GAIN_MODULATION_COUNT: u32 = 2_048;
+
+pub const ANALOGUE_SURFACE_OFFSET: u32 = 2_105_464;
+
+const ANALOGUE_SURFACE_COUNT: u32 = 296_960;
+
+const HIGHPASS_LOADING_OFFSET: u32 = 3_293_304;
+
+const HIGHPASS_LOADING_COUNT: u32 = 2_048;
+
+const DIRECTIONAL_POWER_OFFSET: u32 = 3_301_496;
+
+const DIRECTIONAL_POWER_COUNT: u32 = 706_560;
+
 // The header's words: the total length and the section count, then the byte offset and the entry count of each section.
 const HEADER: [u32; 14] = [
-    6127736,
+    BYTES as u32,
     6,
-    56,
-    524288,
-    2097208,
-    16,
-    2097272,
-    2048,
-    2105464,
-    296960,
-    3293304,
-    2048,
-    3301496,
-    706560,
+    INTEGRATOR_GAIN_OFFSET,
+    INTEGRATOR_GAIN_COUNT,
+    DAMPING_OFFSET,
+    DAMPING_COUNT,
+    SOURCE_GAIN_MODULATION_OFFSET,
+    SOURCE_GAIN_MODULATION_COUNT,
+    ANALOGUE_SURFACE_OFFSET,
+    ANALOGUE_SURFACE_COUNT,
+    HIGHPASS_LOADING_OFFSET,
+    HIGHPASS_LOADING_COUNT,
+    DIRECTIONAL_POWER_OFFSET,
+    DIRECTIONAL_POWER_COUNT,
 ];
 
 // ---- the byte at which an entry stands
@@ -34,28 +67,28 @@ const HEADER: [u32; 14] = [
 pub fn integrator_gain_place(code: u16, resonance: u8, bin: u8) -> u32
     ensures { λ r. ⌜ r ≡ integratorGainPlace code resonance bin ⌝ }
 {
-    56 + 4 * (((code as u32) * 16 + (resonance as u32)) * 16 + (bin as u32))
+    INTEGRATOR_GAIN_OFFSET + 4 * (((code as u32) * 16 + (resonance as u32)) * 16 + (bin as u32))
 }
 
 // The damping at a resonance.
 pub fn damping_place(resonance: u8) -> u32
     ensures { λ r. ⌜ r ≡ dampingPlace resonance ⌝ }
 {
-    2097208 + 4 * (resonance as u32)
+    DAMPING_OFFSET + 4 * (resonance as u32)
 }
 
 // How far the source energy moves the gain, at an effective cutoff.
 pub fn source_gain_modulation_place(code: u16) -> u32
     ensures { λ r. ⌜ r ≡ sourceGainModulationPlace code ⌝ }
 {
-    2097272 + 4 * (code as u32)
+    SOURCE_GAIN_MODULATION_OFFSET + 4 * (code as u32)
 }
 
 // The highpass output's loading at an effective cutoff.
 pub fn highpass_loading_place(cutoff: u16) -> u32
     ensures { λ r. ⌜ r ≡ highpassLoadingPlace cutoff ⌝ }
 {
-    3293304 + 4 * (cutoff as u32)
+    HIGHPASS_LOADING_OFFSET + 4 * (cutoff as u32)
 }
 
 // From the 16 bits of the displacement: -57 has 0xffc7.
@@ -76,7 +109,7 @@ fn displacement_index(displacement: i16) -> u32
 pub fn directional_power_place(mode: u8, cutoff: u16, displacement: i16) -> u32
     ensures { λ r. ⌜ r ≡ directionalPowerPlace mode cutoff displacement ⌝ }
 {
-    3301496
+    DIRECTIONAL_POWER_OFFSET
         + 4 * (((mode as u32) * 2048 + (cutoff as u32)) * 115 + displacement_index(displacement))
 }
 
@@ -124,7 +157,7 @@ pub fn judge_places(buffer: Buffer, bytes: &[u8], places: &[u32]) -> Answer
 
 // Refuses at the first unusable one of a run of entries.
 fn judge_section(bundle: &[u8], offset: usize, count: usize) -> Answer
-    requires { ⌜ offset + 4 * count ≤ 6127736 ⌝ }
+    requires { ⌜ offset + 4 * count ≤ bundleLength ⌝ }
     ensures { λ r. ⌜ r ≡ judgeSectionOf (now (bundle .entry)) (record { offset = offset; count = count }) ⌝ }
 {
     let index = wire::first_unusable(bundle, offset, count);
@@ -142,13 +175,17 @@ fn judge_section(bundle: &[u8], offset: usize, count: usize) -> Answer
 pub fn judge_surface(bundle: &[u8]) -> Answer
     ensures { λ r. ⌜ r ≡ judgeSectionOf (now (bundle .entry)) analogueSurface ⌝ }
 {
-    judge_section(bundle, 2105464, 296960)
+    judge_section(
+        bundle,
+        ANALOGUE_SURFACE_OFFSET as usize,
+        ANALOGUE_SURFACE_COUNT as usize,
+    )
 }
 
 // ---- opening
 
 fn header_byte(i: u32) -> u8
-    requires { ⌜ i < 56 ⌝ }
+    requires { ⌜ i < headerLength ⌝ }
     ensures { λ r. ⌜ r ≡ getD header i 0 ⌝ }
 {
     ((HEADER[(i / 4) as usize] >> (8 * (i % 4))) % 256) as u8
@@ -168,11 +205,11 @@ fn has_word(bundle: &[u8], k: usize, word: u32) -> bool
 
 // The first byte that is not the header's, from one on up to which each is.
 fn difference_from(bundle: &[u8], from: u32) -> u32
-    requires { ⌜ (from ≤ 56) × ((k : ℕ) → k < from → headerByte (now bundle) k ≡ true) ⌝ }
+    requires { ⌜ (from ≤ headerLength) × ((k : ℕ) → k < from → headerByte (now bundle) k ≡ true) ⌝ }
     ensures { λ r. ⌜ r ≡ firstDifference (now (bundle .entry)) ⌝ }
 {
     let mut i = from;
-    while i < 56 {
+    while i < HEADER_BYTES {
         if wire::byte_at(bundle, i as usize) != header_byte(i) {
             return i;
         }
@@ -181,7 +218,7 @@ fn difference_from(bundle: &[u8], from: u32) -> u32
     i
 }
 
-// The first byte that is not the header's, and 56 where there is none: word by word, then in the word that differs.
+// The first byte that is not the header's, and its length where there is none: word by word, then in the word that differs.
 fn first_difference(bundle: &[u8]) -> u32
     ensures { λ r. ⌜ r ≡ firstDifference (now (bundle .entry)) ⌝ }
 {
@@ -193,18 +230,18 @@ fn first_difference(bundle: &[u8]) -> u32
         }
         k += 1;
     }
-    56
+    HEADER_BYTES
 }
 
 // The length, then the header: what every call that takes a bundle looks at.
 pub fn check(bundle: &[u8]) -> Answer
     ensures { λ r. ⌜ r ≡ checkOf (now (bundle .entry)) ⌝ }
 {
-    if bundle.len() != 6127736 {
+    if bundle.len() != BYTES {
         return Answer::BundleLength;
     }
     let place = first_difference(bundle);
-    if place < 56 {
+    if place < HEADER_BYTES {
         return Answer::Header { place };
     }
     Answer::Done
@@ -216,7 +253,7 @@ pub fn open(bundle: &[u8]) -> Answer
 {
     let checked = check(bundle);
     if answers::is_done(checked) {
-        return judge_section(bundle, 56, 1531920);
+        return judge_section(bundle, HEADER_BYTES as usize, ENTRIES);
     }
     checked
 }

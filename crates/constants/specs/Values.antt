@@ -366,24 +366,6 @@ PURE-SAW-MIXER-LINEAR = ofBits binary32 0x3f4ff4dc
 abbrev pub PURE-SAW-MIXER-QUADRATIC : Float
 PURE-SAW-MIXER-QUADRATIC = ofBits binary32 0x3ea617c2
 
--- The drive into the filter and that of its feedback at each operating bin, 0.72 + 0.88 × p and 0.48 + 1.62 × p with p = bin / 15 (tables.rs).
--- The last bin stands twice, so that the entry after any bin's can be read.
-abbrev pub FILTER-INPUT-DRIVE : List Float
-FILTER-INPUT-DRIVE =
-    ofBits binary32 0x3f3851ec ∷ ofBits binary32 0x3f4756b3 ∷ ofBits binary32 0x3f565b7b ∷ ofBits binary32 0x3f656042 ∷
-    ofBits binary32 0x3f74650a ∷ ofBits binary32 0x3f81b4e8 ∷ ofBits binary32 0x3f89374c ∷ ofBits binary32 0x3f90b9b0 ∷
-    ofBits binary32 0x3f983c14 ∷ ofBits binary32 0x3f9fbe77 ∷ ofBits binary32 0x3fa740db ∷ ofBits binary32 0x3faec33e ∷
-    ofBits binary32 0x3fb645a2 ∷ ofBits binary32 0x3fbdc806 ∷ ofBits binary32 0x3fc54a6a ∷ ofBits binary32 0x3fcccccd ∷
-    ofBits binary32 0x3fcccccd ∷ []
-
-abbrev pub FILTER-FEEDBACK-DRIVE : List Float
-FILTER-FEEDBACK-DRIVE =
-    ofBits binary32 0x3ef5c28f ∷ ofBits binary32 0x3f16872b ∷ ofBits binary32 0x3f322d0e ∷ ofBits binary32 0x3f4dd2f2 ∷
-    ofBits binary32 0x3f6978d5 ∷ ofBits binary32 0x3f828f5c ∷ ofBits binary32 0x3f90624e ∷ ofBits binary32 0x3f9e353f ∷
-    ofBits binary32 0x3fac0831 ∷ ofBits binary32 0x3fb9db23 ∷ ofBits binary32 0x3fc7ae15 ∷ ofBits binary32 0x3fd58107 ∷
-    ofBits binary32 0x3fe353f8 ∷ ofBits binary32 0x3ff126ea ∷ ofBits binary32 0x3ffef9db ∷ ofBits binary32 0x40066666 ∷
-    ofBits binary32 0x40066666 ∷ []
-
 -- Every f32 above that stands alone, in order.
 abbrev pub scalarsOf : List Float
 scalarsOf =

@@ -1,6 +1,7 @@
 // The filter's numbers, from constants.rs, with the Rust's names, digits and order. The functions at the end tie each to its bits in specs/.
 ghost use mathlib.Core.Path.{_≡_};
 ghost use Rattle.constants.specs.Values as K;
+ghost use Rattle.constants.specs.Drives.{inputDrivesOf, feedbackDrivesOf};
 ghost use Rattle.constants.specs.Tables.{NoneOf, InRows, rowEntry, singleModeCutoffGainOf, singleModeResonanceGainOf, symmetricLoadingGainOf};
 
 // The cutoff DAC's ladder: the ratio of its 2R to its R resistors, and the level of a bit that is off.
@@ -551,47 +552,6 @@ pub const PURE_PULSE_GATE_RELAXATION_CHARGE: f32 = 1_291.601_0;
 pub const PURE_SAW_MIXER_LINEAR: f32 = 0.812_330;
 
 pub const PURE_SAW_MIXER_QUADRATIC: f32 = 0.324_400;
-// The drive into the filter and that of its feedback at each operating bin, 0.72 + 0.88 × p and 0.48 + 1.62 × p with p = bin / 15 (tables.rs).
-// The last bin stands twice, so that the entry after any bin's can be read.
-const FILTER_INPUT_DRIVE: [f32; 17] = [
-    0.72,
-    0.7786667,
-    0.8373334,
-    0.896,
-    0.95466673,
-    1.0133333,
-    1.072,
-    1.1306667,
-    1.1893334,
-    1.248,
-    1.3066667,
-    1.3653333,
-    1.424,
-    1.4826667,
-    1.5413334,
-    1.6,
-    1.6,
-];
-
-const FILTER_FEEDBACK_DRIVE: [f32; 17] = [
-    0.48,
-    0.588,
-    0.696,
-    0.804,
-    0.912,
-    1.02,
-    1.128,
-    1.236,
-    1.344,
-    1.452,
-    1.5600001,
-    1.6680001,
-    1.776,
-    1.8840001,
-    1.992,
-    2.1,
-    2.1,
-];
 
 // Every f32 that stands alone, in the order above.
 pub fn scalars() -> [f32; 73]
@@ -724,16 +684,51 @@ pub fn frozen_dac_polynomial() -> [[f32; 3]; 11]
     SID_FROZEN_DAC_POLYNOMIAL
 }
 
-pub fn input_drive() -> [f32; 17]
-    ensures { λ r. ⌜ r ≡ K.FILTER-INPUT-DRIVE ⌝ }
+// The drives at the sixteen operating bins (tables.rs): into the filter 0.72 + 0.88 × p, and of its feedback 0.48 + 1.62 × p, where p is bin / 15, rounded first.
+pub fn input_drives() -> [f32; 16]
+    ensures { λ r. ⌜ r ≡ inputDrivesOf ⌝ }
 {
-    FILTER_INPUT_DRIVE
+    [
+        0.72,
+        0.7786667,
+        0.8373334,
+        0.896,
+        0.95466673,
+        1.0133333,
+        1.072,
+        1.1306667,
+        1.1893334,
+        1.248,
+        1.3066667,
+        1.3653333,
+        1.424,
+        1.4826667,
+        1.5413334,
+        1.6,
+    ]
 }
 
-pub fn feedback_drive() -> [f32; 17]
-    ensures { λ r. ⌜ r ≡ K.FILTER-FEEDBACK-DRIVE ⌝ }
+pub fn feedback_drives() -> [f32; 16]
+    ensures { λ r. ⌜ r ≡ feedbackDrivesOf ⌝ }
 {
-    FILTER_FEEDBACK_DRIVE
+    [
+        0.48,
+        0.588,
+        0.696,
+        0.804,
+        0.912,
+        1.02,
+        1.128,
+        1.236,
+        1.344,
+        1.452,
+        1.5600001,
+        1.6680001,
+        1.776,
+        1.8840001,
+        1.992,
+        2.1,
+    ]
 }
 
 // Entry i, 0 to 31, of a mode's load over the cutoff, and NaN past the table. Modes are 0 low, 1 band, 2 high.

@@ -1,12 +1,12 @@
 -- The three refresh calls of filter.rs, operation by operation: what is kept of the registers for the samples that follow.
 use Prim.Native.Nat.{ℕ, _%_}
-use mathlib.Core.Bool.{Bool, cond, _&&_}
-use mathlib.Core.List.{List, [], _∷_}
+use mathlib.Core.Bool.{cond, _&&_}
+use mathlib.Core.List.{List}
 use lib.Dec.{eqb}
-use lib.IntN.{ℤ, pos}
-use lib.ListN.{getD}
-use lib.Ieee.{Float, nan, binary32, ofInt}
+use lib.IntN.{pos}
+use lib.Ieee.{Float, binary32, ofInt}
 use Rattle.constants.specs.Values as K
+use Rattle.constants.specs.Drives.{sixteen, inputDrivesOf, feedbackDrivesOf}
 use Rattle.floats.specs.Arithmetic.{_⊕_, _⊖_, _⊗_, _⊘_, f32}
 use Rattle.floats.specs.Floats.{clampOf}
 use Rattle.response.specs.Levels.{filterOutputCommonModeOf}
@@ -52,12 +52,6 @@ liftPositionOf r = clampOf ((r ⊖ f32 0x4100_0000 ⊘ f32 0x4170_0000) ⊘ (f32
 abbrev pub resonanceOutputGainOf : Float → Float
 resonanceOutputGainOf lift = one ⊕ K.SID-RESONANCE-OUTPUT-LIFT ⊗ lift ⊗ lift
 
--- one entry for each of the sixteen operating bins
-abbrev pub sixteen : (ℕ → Float) → List Float
-sixteen entry =
-    entry 0 ∷ entry 1 ∷ entry 2 ∷ entry 3 ∷ entry 4 ∷ entry 5 ∷ entry 6 ∷ entry 7
-    ∷ entry 8 ∷ entry 9 ∷ entry 10 ∷ entry 11 ∷ entry 12 ∷ entry 13 ∷ entry 14 ∷ entry 15 ∷ []
-
 abbrev pub gainAt : List ℕ → ℕ → ℕ → ℕ → Float
 gainAt bundle code resonance bin = entryAt bundle (integratorGainPlace code resonance bin)
 
@@ -71,8 +65,8 @@ refreshFilterControlsOf bundle cutoff resonance =
     record {
       «effective_cutoff_index» = cutoff;
       «integrator_gain» = integratorGainOf bundle cutoff resonance;
-      «input_drive» = sixteen (λ bin. getD K.FILTER-INPUT-DRIVE bin nan);
-      «feedback_drive» = sixteen (λ bin. getD K.FILTER-FEEDBACK-DRIVE bin nan);
+      «input_drive» = inputDrivesOf;
+      «feedback_drive» = feedbackDrivesOf;
       damping = entryAt bundle (dampingPlace resonance);
       «source_gain_modulation» = entryAt bundle (sourceGainModulationPlace cutoff);
       «high_pass_low_coupling» = highPassLowCouplingOf position;

@@ -1,7 +1,7 @@
 -- What the refresh calls read, in the Rust's order, and whether what they work out is finite: refusals 3 and 6 of the controls.
 use Prim.Native.Nat.{ℕ, _%_}
 use mathlib.Core.Bool.{Bool, true, cond, _&&_}
-use mathlib.Core.List.{List, [], _∷_, _++_, map}
+use mathlib.Core.List.{List, [], _∷_}
 use lib.Dec.{eqb}
 use lib.Ieee.{Float}
 use lib.Ieee.Scale.{finite}
@@ -18,7 +18,6 @@ use Rattle.control.specs.Registers.{effectiveCutoffOf}
 use Rattle.controls.specs.declared.FilterControls.{FilterControls}
 use Rattle.controls.specs.declared.OutputControls.{OutputControls}
 use Rattle.controls.specs.declared.ControlCache.{ControlCache}
-use Rattle.controls.specs.declared.Refreshed.{Refreshed}
 use Rattle.controls.specs.Controls.{controlsOf}
 
 -- ---- the places
@@ -81,13 +80,17 @@ finiteOutputOf o =
 unfoldable pub finiteControlsOf : ControlCache → Bool
 finiteControlsOf c = finiteFilterOf (c .filter) && finite (c .«mode_output_gain») && finiteOutputOf (c .output)
 
--- ---- at the start, and at a write of the cutoff or the routing: the entries of both calls, then the domain
+-- ---- all three: at the start, and at a write of the cutoff or the routing
+
+-- 3: every entry that they read, in the Rust's order
+unfoldable pub judgeEntriesOf : List ℕ → State → Answer
+judgeEntriesOf bundle s =
+    let effective = effectiveCutoffOf s in
+    firstOf (judgeFilterOf bundle effective (s .registers .resonance)) (judgeModeOf bundle (s .registers) effective)
+
+-- 6: every number that they work out is finite
+unfoldable pub judgeDomainOf : List ℕ → State → Answer
+judgeDomainOf bundle s = unlessOf (finiteControlsOf (controlsOf bundle s)) Domain
 
 unfoldable pub judgeControlsOf : List ℕ → State → Answer
-judgeControlsOf bundle s =
-    let effective = effectiveCutoffOf s in
-    firstOf (judgeFilterOf bundle effective (s .registers .resonance))
-    (firstOf (judgeModeOf bundle (s .registers) effective) (unlessOf (finiteControlsOf (controlsOf bundle s)) Domain))
-
-abbrev pub refreshOf : List ℕ → State → Refreshed
-refreshOf bundle s = record { answer = judgeControlsOf bundle s; controls = controlsOf bundle s }
+judgeControlsOf bundle s = firstOf (judgeEntriesOf bundle s) (judgeDomainOf bundle s)

@@ -10,27 +10,28 @@ use lib.ListN.{length, take, drop}
 use borrow.Rule.Slice.PartMut.{putMid, post-is}
 use borrow.Author.Tests.{eqb-true}
 use Rattle.answers.specs.declared.Answer.the-variants.{Done, CurvesLength}
-use Rattle.answers.specs.Answers.{firstOf, unlessOf}
+use Rattle.answers.specs.Answers.{firstOf}
 use Rattle.answers.proofs.Laws.{first-done, unless-done}
 use Rattle.wire.specs.Wire.{u32At, usableOf, floatBytes, putAt, rows}
 use Rattle.wire.proofs.Laws.{length-bytesOf, length-rows, rows-put, putAt-in, putAt-nil, putAt-whole, numberAt-take, numberAt-drop}
-use Rattle.bundle.specs.Layout.{analogueSurface}
+use Rattle.bundle.specs.Layout.{bundleLength, analogueSurface}
 use Rattle.bundle.specs.Opening.{checkOf, judgeSectionOf}
 use Rattle.bundle.proofs.Accepted.{check-done, section-done}
 use Rattle.curves.specs.declared.AnalogueLoadPosition.{AnalogueLoadPosition}
 use Rattle.curves.specs.Sampling.{loadPositionOf, tablePlace}
-use Rattle.curves.specs.Building.{loadCurveOf, curveLoadOf, curveEntryOf, tableRowOf, UsableRow, blendOf, blendsOf, Buildable, curveOf, buildAnswerOf}
+use Rattle.curves.specs.Building.{loadCurveOf, curveLoadOf, curveEntryOf, curveLength, curvesLength, buildCurveOf, judgeLengthOf, judgeBuildOf}
+use Rattle.curves.specs.Inner.{rowLength, tableRowOf, UsableRow, blendOf, blendRowsOf, Buildable}
 use Rattle.curves.proofs.Laws.{load-lower, load-upper}
 
 -- ---- the row of a load
 
-module _ (bundle : List ℕ) (long : length bundle ≡ 6127736) (base : ℕ) (h : base ≤ 294912) where
+module _ (bundle : List ℕ) (long : length bundle ≡ bundleLength) (base : ℕ) (h : base ≤ 294912) where
   -- word `code` of the row is word base + code of the surface
   row-word : (code : ℕ) → code ≤ 2047 → u32At (tableRowOf bundle base) (4 * code) ≡ u32At bundle (tablePlace (base + code))
   unfolding tableRowOf
   row-word code l =
       let q : tablePlace base + 4 * code ≡ tablePlace (base + code) = omega arith in
-      numberAt-take 4 (drop (tablePlace base) bundle) 8192 (4 * code) (omega arith) ∙ numberAt-drop 4 bundle (tablePlace base) (4 * code) (omega arith) ∙ ap (u32At bundle) q
+      numberAt-take 4 (drop (tablePlace base) bundle) rowLength (4 * code) (omega arith) ∙ numberAt-drop 4 bundle (tablePlace base) (4 * code) (omega arith) ∙ ap (u32At bundle) q
 
   pub row-usable : judgeSectionOf bundle analogueSurface ≡ Done → UsableRow (tableRowOf bundle base)
   row-usable d code l = ap usableOf (row-word code (omega arith)) ∙ section-done bundle analogueSurface d (base + code) (omega arith)
@@ -43,7 +44,7 @@ rows-same r r′ e zero = refl
 rows-same r r′ e (suc n) = rw (rows-same r r′ e n, e n)
 
 -- A curve is what the rows of its two loads blend to.
-module _ (bundle : List ℕ) (long : length bundle ≡ 6127736) (curve : ℕ) where
+module _ (bundle : List ℕ) (long : length bundle ≡ bundleLength) (curve : ℕ) where
   abbrev load : AnalogueLoadPosition
   load = loadPositionOf (curveLoadOf curve)
 
@@ -55,8 +56,8 @@ module _ (bundle : List ℕ) (long : length bundle ≡ 6127736) (curve : ℕ) wh
         row-word bundle long (load .«upper_base») (load-upper (curveLoadOf curve)) (min k 2047) (omega arith),
       )
 
-  pub blends-curve : blendsOf (tableRowOf bundle (load .«lower_base»)) (tableRowOf bundle (load .«upper_base»)) (load .fraction) curve ≡ curveOf bundle curve
-  unfolding blendsOf curveOf
+  pub blends-curve : blendRowsOf (tableRowOf bundle (load .«lower_base»)) (tableRowOf bundle (load .«upper_base»)) (load .fraction) curve ≡ buildCurveOf bundle curve
+  unfolding blendRowsOf buildCurveOf
   blends-curve =
       rows-same
       (λ k. floatBytes (blendOf (tableRowOf bundle (load .«lower_base»)) (tableRowOf bundle (load .«upper_base»)) (load .fraction) curve k))
@@ -87,8 +88,8 @@ put-part a n s ys e h =
 pub length-entry : (x : ℕ → Float) (k : ℕ) → length (floatBytes (x k)) ≡ 4
 length-entry x k = length-bytesOf 4 (toBits binary32 (x k))
 
-pub length-curve : (bundle : List ℕ) (curve : ℕ) → length (curveOf bundle curve) ≡ 8196
-unfolding curveOf
+pub length-curve : (bundle : List ℕ) (curve : ℕ) → length (buildCurveOf bundle curve) ≡ curveLength
+unfolding buildCurveOf
 length-curve bundle curve = length-rows (λ k. floatBytes (curveEntryOf bundle curve k)) 4 (length-entry (curveEntryOf bundle curve)) 2049
 
 -- the last entry is the one before it
@@ -98,9 +99,9 @@ last-again lower upper fraction curve = refl
 
 -- ---- what a build that is not refused stands on
 
-pub build-done : (bundle : List ℕ) (long : ℕ) → buildAnswerOf bundle long ≡ Done → Buildable bundle × (long ≡ 254076)
-unfolding buildAnswerOf
-build-done bundle long d =
-    let checked = first-done (checkOf bundle) (firstOf (unlessOf (eqb long 254076) CurvesLength) (judgeSectionOf bundle analogueSurface)) d in
-    let fits = first-done (unlessOf (eqb long 254076) CurvesLength) (judgeSectionOf bundle analogueSurface) (checked .1) in
-    (record { long = check-done bundle (checked .0) .0; judged = fits .1 }, eqb-true _ _ (unless-done (eqb long 254076) CurvesLength refl (fits .0)))
+pub build-done : (bundle curves : List ℕ) → judgeBuildOf bundle curves ≡ Done → Buildable bundle × (length curves ≡ curvesLength)
+unfolding judgeBuildOf
+build-done bundle curves d =
+    let lent = first-done (firstOf (checkOf bundle) (judgeLengthOf curves)) (judgeSectionOf bundle analogueSurface) d in
+    let checked = first-done (checkOf bundle) (judgeLengthOf curves) (lent .0) in
+    (record { long = check-done bundle (checked .0) .0; judged = lent .1 }, eqb-true _ _ (unless-done (eqb (length curves) curvesLength) CurvesLength refl (checked .1)))

@@ -17,14 +17,14 @@ use Rattle.bundle.specs.Opening.{entryAt, judgePlacesOf, Accepted}
 use Rattle.bundle.proofs.Accepted.{section-done, surface-usable}
 use Rattle.bundle.specs.Layout.{analogueSurface}
 use Rattle.curves.specs.Sampling.{loadPositionOf, inputPositionOf, tablePlace, cornersOf, samplePlacesOf, curvePlace}
-use Rattle.curves.specs.Building.{loadCurveOf, curveLoadOf, volumeEntryOf, finishedOf, curveEntryOf, curveOf, curvesOf}
+use Rattle.curves.specs.Building.{loadCurveOf, curveLoadOf, volumeEntryOf, finishedOf, curveEntryOf, curveLength, curvesLength, buildCurveOf, buildCurvesOf}
 use Rattle.curves.proofs.Laws.{load-lower, load-upper, input-lower, input-upper}
 use Rattle.curves.proofs.Building.{length-curve}
 
 module _ (bundle : List ℕ) where
-  pub length-curves : length (curvesOf bundle) ≡ 254076
-  unfolding curvesOf
-  length-curves = length-rows (curveOf bundle) 8196 (length-curve bundle) 31
+  pub length-curves : length (buildCurvesOf bundle) ≡ curvesLength
+  unfolding buildCurvesOf
+  length-curves = length-rows (buildCurveOf bundle) curveLength (length-curve bundle) 31
 
   module _ (curve : ℕ) where
     -- Entry 2,048 repeats entry 2,047.
@@ -41,11 +41,11 @@ module _ (bundle : List ℕ) where
         go false = mul-fits binary32 _ _
 
     -- What is read at the place of an entry is the entry.
-    pub built-entry : curve < 31 → (k : ℕ) → k < 2049 → entryAt (curvesOf bundle) (curvePlace curve k) ≡ curveEntryOf bundle curve k
-    unfolding curvesOf curveOf
+    pub built-entry : curve < 31 → (k : ℕ) → k < 2049 → entryAt (buildCurvesOf bundle) (curvePlace curve k) ≡ curveEntryOf bundle curve k
+    unfolding buildCurvesOf buildCurveOf
     built-entry h k l =
-        let q : curvePlace curve k ≡ 8196 * curve + 4 * k = omega arith in
-        ap (ofBits binary32) (rw q (numberAt-rows (curveOf bundle) 8196 (length-curve bundle) 4 31 curve (4 * k) h (omega arith)))
+        let q : curvePlace curve k ≡ curveLength * curve + 4 * k = omega arith in
+        ap (ofBits binary32) (rw q (numberAt-rows (buildCurveOf bundle) curveLength (length-curve bundle) 4 31 curve (4 * k) h (omega arith)))
         ∙ f32At-rows (curveEntryOf bundle curve) 2049 k l (entry-fits k)
 
 -- On an accepted bundle no sample of the surface is refused.

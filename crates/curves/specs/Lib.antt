@@ -1,3 +1,3 @@
 pub mod Sampling
 pub mod Building
-pub mod Reading
+pub mod Inner

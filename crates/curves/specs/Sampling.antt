@@ -3,10 +3,11 @@ use Prim.Native.Nat.{ℕ, _+_, _*_}
 use mathlib.Core.Bool.{cond}
 use mathlib.Core.List.{List, [], _∷_}
 use lib.Dec.{leb}
-use lib.Ieee.{Float}
+use lib.IntN.{pos}
+use lib.Ieee.{Float, binary32, ofInt}
 use Rattle.constants.specs.Values as K
 use Rattle.floats.specs.Arithmetic.{_⊗_, _⊘_, f32}
-use Rattle.floats.specs.Floats.{clampOf, ofSmall}
+use Rattle.floats.specs.Floats.{clampOf}
 use Rattle.response.specs.declared.TablePosition.{TablePosition}
 use Rattle.response.specs.Levels.{interpolateOf, filterModeQuiescentLevelOf}
 use Rattle.response.specs.Position.{tablePositionOf}
@@ -79,7 +80,7 @@ sampleCurvePlacesOf curve input =
 
 -- `summer_resting_output` of `Filter::new`: the surface at the load of `count` inputs and the quiescent level, and 0 for counts below 2
 unfoldable pub summerRestingOutputOf : List ℕ → ℕ → Float
-summerRestingOutputOf bundle count = cond (leb 2 count) (sampleOf bundle (ofSmall count) filterModeQuiescentLevelOf) (f32 0)
+summerRestingOutputOf bundle count = cond (leb 2 count) (sampleOf bundle (ofInt binary32 (pos count)) filterModeQuiescentLevelOf) (f32 0)
 
 unfoldable pub summerRestingPlacesOf : ℕ → List ℕ
-summerRestingPlacesOf count = cond (leb 2 count) (samplePlacesOf (ofSmall count) filterModeQuiescentLevelOf) []
+summerRestingPlacesOf count = cond (leb 2 count) (samplePlacesOf (ofInt binary32 (pos count)) filterModeQuiescentLevelOf) []

@@ -12,13 +12,25 @@ ghost use mathlib.Core.List.{[], _∷_};
 ghost use Rattle.bundle.specs.Opening.{entryAt, judgePlacesOf};
 ghost use Rattle.bundle.specs.Reading.{readOf};
 ghost use Rattle.response.specs.Levels.{interpolateOf};
-ghost use Rattle.curves.specs.Sampling.{loadPositionOf, inputPositionOf, tablePlace, samplePlacesOf, sampleOf, curvePlace, sampleCurvePlacesOf, sampleCurveOf, summerRestingPlacesOf, summerRestingOutputOf};
-ghost use Rattle.curves.specs.Reading.{readRowOf};
-ghost use Rattle.curves.specs.Building.{curveLoadOf, volumeEntryOf, finishedOf, tableRowOf, UsableRow, blendOf, blendsOf, Buildable, curveOf, curvesOf, buildAnswerOf, builtOf};
+ghost use Rattle.bundle.specs.Layout.{bundleLength};
+ghost use Rattle.curves.specs.Sampling.{loadPositionOf, inputPositionOf, tablePlace, samplePlacesOf, sampleOf, curvePlace, sampleCurvePlacesOf, sampleCurveOf};
+ghost use Rattle.curves.specs.Sampling.{summerRestingPlacesOf, summerRestingOutputOf};
+ghost use Rattle.curves.specs.Building.{curveLoadOf, volumeEntryOf, finishedOf, curveLength, curvesLength, buildCurveOf, buildCurvesOf, judgeLengthOf, judgeBuildOf, buildOf};
+ghost use Rattle.curves.specs.Inner.{readRowOf, tableRowOf, UsableRow, blendOf, blendRowsOf, Buildable};
 use answers::Answer;
 use answers::Buffer;
 use bundle::Read;
 use response::TablePosition;
+
+// The curves: how many, the bytes of one, which has 2,049 entries of four, and the bytes of all.
+const CURVES: u8 = 31;
+
+const CURVE_BYTES: usize = 8_196;
+
+pub const BYTES: usize = 254_076;
+
+// The bytes of a load's row in the surface: 2,048 entries of four.
+const ROW_BYTES: usize = 8_192;
 
 // The rows of the two loads that a conductance lies between, each by the index of its first entry, and how far it lies from the lower one.
 pub struct AnalogueLoadPosition {
@@ -74,7 +86,7 @@ fn table_place(base: usize, index: usize) -> u32
     requires { ⌜ (base ≤ 294912) × (index ≤ 2047) ⌝ }
     ensures { λ r. ⌜ r ≡ tablePlace (base + index) ⌝ }
 {
-    (2105464 + 4 * (base + index)) as u32
+    bundle::ANALOGUE_SURFACE_OFFSET + 4 * ((base + index) as u32)
 }
 
 // The four entries between which a conductance and an input lie, in the order in which they are read.
@@ -123,16 +135,12 @@ pub fn sample(bundle: &[u8], conductance: f32, input: f32) -> f32
     let load = load_position(conductance);
     let at = input_position(input);
     let places = sample_places(conductance, input);
-    let lower = response::interpolate(
-        bundle::entry_at(bundle, places[0]),
-        bundle::entry_at(bundle, places[1]),
-        at.fraction,
-    );
-    let upper = response::interpolate(
-        bundle::entry_at(bundle, places[2]),
-        bundle::entry_at(bundle, places[3]),
-        at.fraction,
-    );
+    let lower_left = bundle::entry_at(bundle, places[0]);
+    let lower_right = bundle::entry_at(bundle, places[1]);
+    let upper_left = bundle::entry_at(bundle, places[2]);
+    let upper_right = bundle::entry_at(bundle, places[3]);
+    let lower = response::interpolate(lower_left, lower_right, at.fraction);
+    let upper = response::interpolate(upper_left, upper_right, at.fraction);
     response::interpolate(lower, upper, load.fraction)
 }
 
@@ -218,13 +226,13 @@ pub fn read_curve(curves: &[u8], curve: u8, input: f32) -> Read
 // ---- the summer at rest
 
 // Refuses at the first unusable entry that `summer_resting_output` reads.
-pub fn judge_summer_resting_output(bundle: &[u8], count: usize) -> Answer
+pub fn judge_summer_resting_output(bundle: &[u8], count: u8) -> Answer
     ensures { λ r. ⌜ r ≡ judgePlacesOf Bundle (now (bundle .entry)) (summerRestingPlacesOf count) ⌝ }
 {
     if 2 <= count {
         return judge_sample(
             bundle,
-            floats::of_usize(count),
+            floats::of_u16(count as u16),
             response::filter_mode_quiescent_level(),
         );
     }
@@ -232,13 +240,13 @@ pub fn judge_summer_resting_output(bundle: &[u8], count: usize) -> Answer
 }
 
 // The summer's output at rest, for a count of inputs with the two that are always there.
-pub fn summer_resting_output(bundle: &[u8], count: usize) -> f32
+pub fn summer_resting_output(bundle: &[u8], count: u8) -> f32
     ensures { λ r. ⌜ r ≡ summerRestingOutputOf (now (bundle .entry)) count ⌝ }
 {
     if 2 <= count {
         return sample(
             bundle,
-            floats::of_usize(count),
+            floats::of_u16(count as u16),
             response::filter_mode_quiescent_level(),
         );
     }
@@ -246,13 +254,13 @@ pub fn summer_resting_output(bundle: &[u8], count: usize) -> f32
 }
 
 // `summer_resting_output`, each entry judged as it is read. It depends on the bundle and the count alone, so a run may keep it.
-pub fn read_resting_output(bundle: &[u8], count: usize) -> Read
+pub fn read_resting_output(bundle: &[u8], count: u8) -> Read
     ensures { λ r. ⌜ r ≡ readOf (judgePlacesOf Bundle (now (bundle .entry)) (summerRestingPlacesOf count)) (summerRestingOutputOf (now (bundle .entry)) count) ⌝ }
 {
     if 2 <= count {
         return read_sample(
             bundle,
-            floats::of_usize(count),
+            floats::of_u16(count as u16),
             response::filter_mode_quiescent_level(),
         );
     }
@@ -294,11 +302,11 @@ fn finished(curve: u8, entry: f32) -> f32
 
 // The row of a load, by the index of its first entry.
 fn table_row(bundle: &[u8], base: usize) -> &[u8]
-    requires { ⌜ (base ≤ 294912) × (length (now bundle) ≡ 6127736) ⌝ }
+    requires { ⌜ (base ≤ 294912) × (length (now bundle) ≡ bundleLength) ⌝ }
     ensures { λ r. ⌜ now r ≡ tableRowOf (now (bundle .entry)) base ⌝ }
 {
-    let from = 2105464 + 4 * base;
-    let end = from + 8192;
+    let from = (bundle::ANALOGUE_SURFACE_OFFSET as usize) + 4 * base;
+    let end = from + ROW_BYTES;
     &bundle[from..end]
 }
 
@@ -321,21 +329,21 @@ fn blend(lower: &[u8], upper: &[u8], fraction: f32, curve: u8, code: usize) -> f
 
 // All entries of a curve, from the rows of its two loads; the last is there twice.
 fn blend_rows(row: &mut [u8], lower: &[u8], upper: &[u8], fraction: f32, curve: u8)
-    requires { ⌜ (length (now row) ≡ 8196) × UsableRow (now lower) × UsableRow (now upper) ⌝ }
-    ensures { λ _. ⌜ now (row .exit) ≡ blendsOf (now (lower .entry)) (now (upper .entry)) fraction curve ⌝ }
+    requires { ⌜ (length (now row) ≡ curveLength) × UsableRow (now lower) × UsableRow (now upper) ⌝ }
+    ensures { λ _. ⌜ now (row .exit) ≡ blendRowsOf (now (lower .entry)) (now (upper .entry)) fraction curve ⌝ }
 {
     let mut k = 0;
     while k < 2048 {
         wire::put_f32(row, 4 * k, blend(lower, upper, fraction, curve, k));
         k += 1;
     }
-    wire::put_f32(row, 8192, blend(lower, upper, fraction, curve, 2047));
+    wire::put_f32(row, ROW_BYTES, blend(lower, upper, fraction, curve, 2047));
 }
 
 // One curve, into its 8,196 bytes.
 fn build_curve(bundle: &[u8], row: &mut [u8], curve: u8)
-    requires { ⌜ Buildable (now bundle) × (length (now row) ≡ 8196) ⌝ }
-    ensures { λ _. ⌜ now (row .exit) ≡ curveOf (now (bundle .entry)) curve ⌝ }
+    requires { ⌜ Buildable (now bundle) × (length (now row) ≡ curveLength) ⌝ }
+    ensures { λ _. ⌜ now (row .exit) ≡ buildCurveOf (now (bundle .entry)) curve ⌝ }
 {
     let load = load_position(curve_load(curve));
     blend_rows(
@@ -348,27 +356,31 @@ fn build_curve(bundle: &[u8], row: &mut [u8], curve: u8)
 }
 
 fn build_curves(bundle: &[u8], curves: &mut [u8])
-    requires { ⌜ Buildable (now bundle) × (length (now curves) ≡ 254076) ⌝ }
-    ensures { λ _. ⌜ now (curves .exit) ≡ curvesOf (now (bundle .entry)) ⌝ }
+    requires { ⌜ Buildable (now bundle) × (length (now curves) ≡ curvesLength) ⌝ }
+    ensures { λ _. ⌜ now (curves .exit) ≡ buildCurvesOf (now (bundle .entry)) ⌝ }
 {
     let mut curve = 0;
-    while curve < 31 {
-        let from = 8196 * (curve as usize);
-        let end = from + 8196;
+    while curve < CURVES {
+        let from = CURVE_BYTES * (curve as usize);
+        let end = from + CURVE_BYTES;
         build_curve(bundle, &mut curves[from..end], curve);
         curve += 1;
     }
 }
 
-// The bundle's length and header, the buffer's length, then every entry of the surface.
-fn judge_build(bundle: &[u8], long: usize) -> Answer
-    ensures { λ r. ⌜ r ≡ buildAnswerOf (now (bundle .entry)) long ⌝ }
+// Refuses a buffer that is not of the curves' length: what every call that takes one asks.
+pub fn judge_length(curves: &[u8]) -> Answer
+    ensures { λ r. ⌜ r ≡ judgeLengthOf (now (curves .entry)) ⌝ }
 {
-    let checked = bundle::check(bundle);
+    answers::unless(curves.len() == BYTES, Answer::CurvesLength)
+}
+
+// The bundle's length and header, the buffer's length, then every entry of the surface.
+fn judge_build(bundle: &[u8], curves: &[u8]) -> Answer
+    ensures { λ r. ⌜ r ≡ judgeBuildOf (now (bundle .entry)) (now (curves .entry)) ⌝ }
+{
+    let checked = answers::first(bundle::check(bundle), judge_length(curves));
     if answers::is_done(checked) {
-        if long != 254076 {
-            return Answer::CurvesLength;
-        }
         return bundle::judge_surface(bundle);
     }
     checked
@@ -376,10 +388,10 @@ fn judge_build(bundle: &[u8], long: usize) -> Answer
 
 // Builds the 31 curves. A build that is refused writes nothing.
 pub fn build(bundle: &[u8], curves: &mut [u8]) -> Answer
-    ensures { λ r. ⌜ r ≡ buildAnswerOf (now (bundle .entry)) (length (now (curves .entry))) ⌝ }
-    ensures { λ _. ⌜ now (curves .exit) ≡ builtOf (now (bundle .entry)) (now (curves .entry)) ⌝ }
+    ensures { λ r. ⌜ r ≡ judgeBuildOf (now (bundle .entry)) (now (curves .entry)) ⌝ }
+    ensures { λ _. ⌜ now (curves .exit) ≡ buildOf (now (bundle .entry)) (now (curves .entry)) ⌝ }
 {
-    let judged = judge_build(bundle, curves.len());
+    let judged = judge_build(bundle, curves);
     if answers::is_done(judged) {
         build_curves(bundle, curves);
     }

@@ -1,7 +1,7 @@
 -- What a format holds, and where rounding to it changes nothing. Assumes nothing.
 use mathlib.Core.Path.{_≡_, sym, ap, _∙_}
 use mathlib.Core.Bool.{Bool, _&&_}
-use Prim.Native.Nat.{ℕ, suc, _+_, _*_, _%_, _^_, _≤_, _<_, suc-le-suc}
+use Prim.Native.Nat.{ℕ, suc, _*_, _%_, _^_, _≤_, _<_, suc-le-suc}
 use native.Mathlib.Nat.{le-of-eq, lt-of-lt-of-le, lt-of-le-of-lt, lt-of-mul-lt-mul-right, lt-of-not-le, not-le-of-lt, mul-comm, mul-right-comm, mul-lt-mul-of-pos-right}
 use lib.IntN.{ℤ}
 use lib.Dec.{T, ltb, leb, eqb, ltb→lt, leb→le}

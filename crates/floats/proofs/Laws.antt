@@ -2,7 +2,8 @@
 use mathlib.Core.Path.{_≡_, refl, sym, ap, _∙_, subst}
 use mathlib.Core.Bool.{Bool, true, false, not, _&&_, cond, true≢false}
 use Prim.Native.Nat.{ℕ, zero, suc, _+_, _-_, _*_, _/_, _%_, _^_, _≤_, _<_, min}
-use native.Mathlib.Nat.{zero-div, zero-mul, add-mod-left, mod-eq-of-lt, mod-lt, mul-div-mul-right, div-lt-iff-lt-mul, div-le-self, le-div-iff-mul-le, le-trans, le-of-eq, le-suc, lt-of-lt-of-le, lt-irrefl, lt-of-le-of-lt, mul-comm}
+use native.Mathlib.Nat.{zero-div, zero-mul, add-mod-left, mod-eq-of-lt, mod-lt, mul-div-mul-right, div-lt-iff-lt-mul, div-le-self, le-div-iff-mul-le, le-trans, le-of-eq, le-suc}
+use native.Mathlib.Nat.{lt-of-lt-of-le, lt-irrefl, lt-of-le-of-lt, mul-comm}
 use native.Mathlib.Omega.{arith}
 use borrow.Author.Tests.{ltb-true, ltb-false, lt-leb, ne-eqb}
 use lib.IntN.{ℤ, pos, negℤ, _-ℤ_, +ℤ-idl}
@@ -91,7 +92,7 @@ abs-nan x h = rw (unequal-nan x h)
 
 -- ---- the whole part
 
-uncapped : (a c : ℕ) → a < c → min a (c - 1) ≡ a
+pub uncapped : (a c : ℕ) → a < c → min a (c - 1) ≡ a
 uncapped a c h = omega arith
 
 -- of a float that is a / c
@@ -136,7 +137,8 @@ shifted f x h p l = go (toBits f x / hid f) refl p l
     go zero e p l = absurd (lt-irrefl 0 p)
     go (suc k) e p l =
         let few : suc k < ones f = lt-of-le-of-lt l (below-ones f) in
-        let small : b < top f = lt-of-lt-of-le (div-lt-iff-lt-mul (pow-pos (prec f - 1)) .0 (le-trans (le-of-eq (ap suc e)) (le-trans few (le-suc (ones f))))) (le-of-eq (mul-comm (suc (ones f)) (hid f))) in
+        let small : b < top f =
+        lt-of-lt-of-le (div-lt-iff-lt-mul (pow-pos (prec f - 1)) .0 (le-trans (le-of-eq (ap suc e)) (le-trans few (le-suc (ones f))))) (le-of-eq (mul-comm (suc (ones f)) (hid f))) in
         let whole : (hid f + b % hid f) * 2 ^ k / 2 ^ low f ≡ (hid f + b % hid f) / 2 ^ (low f - k) = cut (hid f + b % hid f) (low f) k (omega arith) in
         let bound : (hid f + b % hid f) / 2 ^ (low f - k) < 2 ^ 64 = within (div-le-self (hid f + b % hid f) (2 ^ (low f - k))) (mod-lt b (pow-pos (prec f - 1))) (twice-hid f) in
         value-whole 64 x ((hid f + b % hid f) * 2 ^ k) (2 ^ low f) (pow-pos (low f)) (rw whole bound)

@@ -4,13 +4,14 @@ use mathlib.Core.Path.{_≡_, refl, sym, ap, _∙_, subst}
 use mathlib.Core.Logic.{inl, inr}
 use mathlib.Core.Bool.{Bool, true, false, not, cond, true≢false}
 use Prim.Native.Nat.{ℕ, zero, suc, _+_, _-_, _*_, _/_, _%_, _^_, _≤_, _<_, compare, Ordering·lt, Ordering·eq, Ordering·gt, compare·zero-zero, compare·zero-suc, compare·suc-zero, compare·suc-suc}
-use native.Mathlib.Nat.{zero-add, one-mul, div-eq-of-lt, mod-eq-of-lt, eq-or-lt-of-le, le-of-mul-le-mul-right, suc-mul, pow-succ', le-antisymm, le-trans, le-of-eq, lt-of-not-le, lt-of-le-of-lt, lt-of-lt-of-le, not-le-of-lt, mul-pos, mul-one, mul-assoc, mul-comm, mul-left-comm, mul-right-comm, mul-le-mul, mul-le-mul-left, mul-le-mul-right, mul-lt-mul-of-pos-right, le-div-iff-mul-le, div-lt-iff-lt-mul, mul-div-cancel, div-one}
+use native.Mathlib.Nat.{zero-add, one-mul, div-eq-of-lt, mod-eq-of-lt, eq-or-lt-of-le, le-of-mul-le-mul-right, suc-mul, pow-succ', le-antisymm, le-trans, le-of-eq, lt-of-not-le}
+use native.Mathlib.Nat.{lt-of-le-of-lt, lt-of-lt-of-le, not-le-of-lt, mul-pos, mul-one, mul-assoc, mul-comm, mul-left-comm, mul-right-comm, mul-le-mul, mul-le-mul-left, mul-le-mul-right}
+use native.Mathlib.Nat.{mul-lt-mul-of-pos-right, le-div-iff-mul-le, div-lt-iff-lt-mul, mul-div-cancel, div-one}
 use native.Mathlib.Omega.{arith}
 use borrow.Author.Tests.{ltb-true, ltb-false, le-ltb, ne-eqb, lt-leb, le-leb, leb-true, leb-false}
-use lib.IntN.{ℤ, pos}
-use lib.Dec.{T, ltb, leb, eqb, lit<, lit≤}
+use lib.Dec.{T, ltb, leb, eqb, lit<}
 use lib.Pow.{pow-add, pow-pos, pow-mono, pow-lt, shl-lt}
-use lib.Ieee.{Float, nan, inf, fin, Format, binary32, binary64, prec, emax, low, hid, ones, top, up, down, size, neg, odd, units, round, ofFields, ofBits, toBits, fits, isNan, nanBits}
+use lib.Ieee.{Float, nan, inf, fin, Format, binary32, binary64, prec, emax, low, hid, ones, up, down, size, neg, odd, units, round, ofFields, ofBits, toBits, fits, isNan, nanBits}
 use lib.Ieee.Bits.{ofBits-toBits, nanBits-above}
 use lib.Ieee.Digits.{size-lt, size-le}
 use lib.Ieee.Exact.{HasValue, odd-sign, units-val}
@@ -42,7 +43,8 @@ dropped f d r (suc k) h =
     (le-trans (le-of-eq (shift (prec f - 1))) (mul-le-mul-right (2 ^ suc k) (le-div-iff-mul-le (pow-pos r) .0 (h .above (omega arith))))) in
     let hi : d * 2 ^ suc k / 2 ^ r < 2 ^ suc (prec f - 1 + suc k) =
     div-lt-iff-lt-mul (pow-pos r) .1
-    (lt-of-lt-of-le (mul-lt-mul-of-pos-right (div-lt-iff-lt-mul (pow-pos r) .0 (h .below)) (pow-pos (suc k))) (le-of-eq (sym (shift (prec f)) ∙ ap (λ (n : ℕ). 2 ^ n * 2 ^ r) (one-more (prec f) (two f))))) in
+    (lt-of-lt-of-le (mul-lt-mul-of-pos-right (div-lt-iff-lt-mul (pow-pos r) .0 (h .below)) (pow-pos (suc k)))
+    (le-of-eq (sym (shift (prec f)) ∙ ap (λ (n : ℕ). 2 ^ n * 2 ^ r) (one-more (prec f) (two f))))) in
     ap (λ (n : ℕ). n - prec f) (size-at (prec f - 1 + suc k) (d * 2 ^ suc k / 2 ^ r) lo hi) ∙ kept (prec f) (two f)
   where
     shift : (p : ℕ) → 2 ^ (p + suc k) * 2 ^ r ≡ 2 ^ p * 2 ^ r * 2 ^ suc k
@@ -195,7 +197,8 @@ tiny y d x small l v =
     let far : 54 ≤ 925 - x = omega arith in
     let under : d * 2 < 2 ^ (925 - x) = lt-of-lt-of-le (shl-lt 53 1 small) (pow-mono far) in
     let none : d / 2 ^ (925 - x) ≡ 0 = div-eq-of-lt (omega arith) in
-    sym (scaled y d x (925 - x) 0 (omega arith) (record { above = λ p. absurd (omega arith); below = rw none (lit< tt) }) v ∙ ap (λ (q : ℕ). units binary32 false q 0) (no-closest d (2 ^ (925 - x)) under))
+    sym (scaled y d x (925 - x) 0 (omega arith) (record { above = λ p. absurd (omega arith); below = rw none (lit< tt) }) v
+    ∙ ap (λ (q : ℕ). units binary32 false q 0) (no-closest d (2 ^ (925 - x)) under))
 
 -- a closest number lies beside the quotient
 closest-ge : (a b : ℕ) → a / b ≤ closest a b
@@ -204,12 +207,15 @@ closest-ge a b = nearest-ge (a / b) (compare (a % b * 2) b)
 closest-le : (a b : ℕ) → closest a b ≤ suc (a / b)
 closest-le a b = nearest-le (a / b) (compare (a % b * 2) b)
 
-scaled-fits : (y : Float) (d x r k : ℕ) → x + (r + 149) ≡ k + 1074 → Digits binary32 d r k → HasValue y false (d * 2 ^ x) (2 ^ low binary64) → T (fits binary32 (units binary32 false (closest d (2 ^ r)) k))
+scaled-fits : (y : Float) (d x r k : ℕ) → x + (r + 149) ≡ k + 1074 → Digits binary32 d r k → HasValue y false (d * 2 ^ x) (2 ^ low binary64)
+    → T (fits binary32 (units binary32 false (closest d (2 ^ r)) k))
 scaled-fits y d x r k e h v =
-    subst (λ (z : Float). T (fits binary32 z)) (sym (narrow-value y (d * 2 ^ x) (2 ^ low binary64) (pow-pos (low binary64)) v) ∙ scaled y d x r k e h v) (round-fits binary32 false (d * 2 ^ x) (2 ^ low binary64))
+    subst (λ (z : Float). T (fits binary32 z)) (sym (narrow-value y (d * 2 ^ x) (2 ^ low binary64) (pow-pos (low binary64)) v) ∙ scaled y d x r k e h v)
+    (round-fits binary32 false (d * 2 ^ x) (2 ^ low binary64))
 
 -- in the f32's range: the pattern
-held-bits : (y : Float) (d x r k : ℕ) → x + (r + 149) ≡ k + 1074 → Digits binary32 d r k → k ≤ last binary32 → HasValue y false (d * 2 ^ x) (2 ^ low binary64) → ofBits binary32 (k * 8388608 + closest d (2 ^ r)) ≡ narrowOf y
+held-bits : (y : Float) (d x r k : ℕ) → x + (r + 149) ≡ k + 1074 → Digits binary32 d r k → k ≤ last binary32 → HasValue y false (d * 2 ^ x) (2 ^ low binary64)
+    → ofBits binary32 (k * 8388608 + closest d (2 ^ r)) ≡ narrowOf y
 held-bits y d x r k e h field v =
     pattern binary32 (closest d (2 ^ r)) k (λ (p : 0 < k). le-trans (h .above p) (closest-ge d (2 ^ r))) (le-trans (closest-le d (2 ^ r)) (h .below)) field (scaled-fits y d x r k e h v)
     ∙ sym (scaled y d x r k e h v)
@@ -246,7 +252,8 @@ normal-field zero t small h l = absurd (omega arith)
 normal-field (suc x) t small h l =
     let field : suc x - 897 ≡ x - 896 = omega arith in
     rw field
-    (held-bits (ofFields binary64 false (suc x) t) (4503599627370496 + t) x 29 (x - 896) (omega arith) (record { above = λ p. omega arith; below = omega arith }) (omega arith) (normal binary64 x t (no-last x (omega arith))))
+    (held-bits (ofFields binary64 false (suc x) t) (4503599627370496 + t) x 29 (x - 896) (omega arith) (record { above = λ p. omega arith; below = omega arith })
+    (omega arith) (normal binary64 x t (no-last x (omega arith))))
 
 pub high-field : (n t : ℕ) → t < 4503599627370496 → 1151 ≤ n → T (not (isNan (ofFields binary64 false n t))) → inf false ≡ narrowOf (ofFields binary64 false n t)
 unfolding ofFields isNan narrowOf
@@ -298,7 +305,9 @@ module _ (x : Float) (h : T (fits binary64 x)) where
 
   minus-is : 9223372036854775808 ≤ toBits binary64 x → neg (magnitude x) ≡ x
   unfolding ofBits
-  minus-is l = sym (fields-neg binary64 (toBits binary64 x % 9223372036854775808 / 4503599627370496) (toBits binary64 x % 4503599627370496)) ∙ (rw (le-leb 9223372036854775808 (toBits binary64 x) l) at (ofBits-toBits binary64 x h))
+  minus-is l =
+      sym (fields-neg binary64 (toBits binary64 x % 9223372036854775808 / 4503599627370496) (toBits binary64 x % 4503599627370496))
+      ∙ (rw (le-leb 9223372036854775808 (toBits binary64 x) l) at (ofBits-toBits binary64 x h))
 
   pub plus-narrow : {r : Float} → r ≡ narrowOf (magnitude x) → toBits binary64 x < 9223372036854775808 → r ≡ narrowOf x
   plus-narrow e l = e ∙ ap narrowOf (plus-is l)

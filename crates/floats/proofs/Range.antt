@@ -5,7 +5,10 @@ use mathlib.Core.Path.{_≡_, refl, sym, ap, _∙_, subst}
 use mathlib.Core.Logic.{_⊎_, inl, inr}
 use mathlib.Core.Bool.{Bool, true, false, not, _&&_, _||_, cond, true≢false}
 use Prim.Native.Nat.{ℕ, zero, suc, _+_, _-_, _*_, _/_, _%_, _^_, _≤_, _<_, min}
-use native.Mathlib.Nat.{lt-irrefl, le-trans, le-antisymm, le-of-suc-le-suc, le-div-iff-mul-le, div-lt-iff-lt-mul, le-of-eq, le-of-lt, lt-of-lt-of-le, lt-of-le-of-lt, eq-zero-or-pos, zero-lt-suc, zero-mul, one-mul, mul-one, mul-comm, mul-assoc, mul-right-comm, mul-mul-mul-comm, mul-le-mul, mul-le-mul-right, mul-lt-mul-of-pos-right, le-of-mul-le-mul-right, mul-pos, div-le-of-le-mul, div-mul-le-self, mod-lt, mod-le, mod-one, zero-mod, mod-eq-sub-div-mul, mul-sub, lt-of-mul-lt-mul-right, not-le-of-lt}
+use native.Mathlib.Nat.{lt-irrefl, le-trans, le-antisymm, le-of-suc-le-suc, le-div-iff-mul-le, div-lt-iff-lt-mul, le-of-eq, le-of-lt, lt-of-lt-of-le, lt-of-le-of-lt, eq-zero-or-pos}
+use native.Mathlib.Nat.{zero-lt-suc, zero-mul, one-mul, mul-one, mul-comm, mul-assoc, mul-right-comm, mul-mul-mul-comm, mul-le-mul, mul-le-mul-right, mul-lt-mul-of-pos-right}
+use native.Mathlib.Nat.{le-of-mul-le-mul-right, mul-pos, div-le-of-le-mul, div-mul-le-self, mod-lt, mod-le, mod-one, zero-mod, mod-eq-sub-div-mul, mul-sub, lt-of-mul-lt-mul-right}
+use native.Mathlib.Nat.{not-le-of-lt}
 use native.Mathlib.Omega.{arith}
 use borrow.Author.Tests.{ltb-true, ltb-false}
 use lib.IntN.{ℤ, pos, negsuc}
@@ -20,6 +23,7 @@ use lib.Ieee.Scale.{finite, round-same}
 use lib.Ieee.Back.{round-whole}
 use Rattle.floats.specs.Floats.{clampOf}
 use Rattle.floats.proofs.Formats.{held, exact, pow-le}
+use Rattle.floats.proofs.Laws.{uncapped}
 
 abbrev pub Within : Float → ℕ → Type 0
 Within nan k = ⊥
@@ -121,7 +125,9 @@ divisor-pos n d e k K h = mul-pos (subst (λ (z : ℕ). 0 < z) (sym h ∙ mul-on
 -- a divisor k above 0 is not written with an n that is 0
 pick : (b : Bool) (x y : Float) (n : ℕ) (d e : ℤ) (j k : ℕ) → (T b → n ≡ 0) → 0 < k → n * up d * 1 ≡ k * down d → Within y j → Within (cond b x y) j
 pick false x y n d e j k z K h u = u
-pick true x y n d e j k z K h u = absurd (lt-irrefl 0 (subst (λ (a : ℕ). 0 < a) (ap (λ (a : ℕ). a * up d * down e) (z tt) ∙ ap (λ (a : ℕ). a * down e) (zero-mul (up d)) ∙ zero-mul (down e)) (divisor-pos n d e k K h)))
+pick true x y n d e j k z K h u =
+    absurd (lt-irrefl 0 (subst (λ (a : ℕ). 0 < a) (ap (λ (a : ℕ). a * up d * down e) (z tt) ∙ ap (λ (a : ℕ). a * down e) (zero-mul (up d)) ∙ zero-mul (down e))
+    (divisor-pos n d e k K h)))
 
 div-within : (f : Format) (x y : Float) (j k : ℕ) → j ≤ 2 ^ prec f → 0 < k → HasValue y false k 1 → Within x (j * k) → Within (div f x y) j
 unfolding div
@@ -190,7 +196,7 @@ from-index (fin false l g) (fin false m e) k v w h =
     omega arith
 
 -- ---- Rust's clamp
--- the same where the clamp is two `if`s that both fell through
+-- x is what is clamped, and neither test moves it
 tests-within : (lo hi x : Float) (k : ℕ) → HasValue lo false 0 1 → HasValue hi false k 1 → T (not (isNan x)) → lt x lo ≡ false → lt hi x ≡ false → Within x k
 unfolding lt isNan
 tests-within nan hi x k hl hh n a b = absurd hl
@@ -205,7 +211,8 @@ tests-within (fin false l g) (fin false i d) (inf false) k hl hh n a b = true≢
 tests-within (fin false l g) (fin false i d) (fin true m e) k hl hh n a b =
     no-factor m (up e) (up-pos e) (no-factor (m * up e) (down g) (down-pos g) (omega (arith, ltb-false 0 (m * up e * down g + l * up g * down e) a)))
 tests-within (fin false l g) (fin false i d) (fin false m e) k hl hh n a b =
-    le-of-mul-le-mul-right (le-trans (ltb-false (i * up d * down e) (m * up e * down d) b) (le-of-eq (ap (λ (z : ℕ). z * down e) (sym (mul-one (i * up d)) ∙ hh .1) ∙ mul-right-comm k (down d) (down e)))) (down-pos d)
+    le-of-mul-le-mul-right
+    (le-trans (ltb-false (i * up d * down e) (m * up e * down d) b) (le-of-eq (ap (λ (z : ℕ). z * down e) (sym (mul-one (i * up d)) ∙ hh .1) ∙ mul-right-comm k (down d) (down e)))) (down-pos d)
 
 clamp-within : (lo hi x : Float) (k : ℕ) → HasValue lo false 0 1 → HasValue hi false k 1 → T (not (isNan x)) → Within (clampOf x lo hi) k
 clamp-within lo hi x k hl hh n = go (lt x lo) (lt hi x) refl refl
@@ -314,9 +321,6 @@ fewer-64 : (f : Format) → 2 ^ prec f < 2 ^ 64
 fewer-64 binary32 = lit< tt
 fewer-64 binary64 = lit< tt
 
-uncapped : (a c : ℕ) → a < c → min a (c - 1) ≡ a
-uncapped a c h = omega arith
-
 within-fraction : (f : Format) (x : Float) (k : ℕ) → k ≤ 2 ^ prec f → T (fits f x) → Within x k → Fraction (sub f x (ofInt f (pos (toUnsigned 64 x))))
 unfolding toUnsigned ofInt
 within-fraction f nan k K t u = absurd u
@@ -328,7 +332,8 @@ within-fraction f (fin false m e) k K t u =
     let same : min l (2 ^ 64 - 1) ≡ l = uncapped l (2 ^ 64) (lt-of-le-of-lt (le-trans L K) (fewer-64 f)) in
     subst (λ (z : ℕ). Fraction (sub f (fin false m e) (round f false z 1))) (sym same)
     (subst Fraction
-    (sym (sub-whole f m e (round f false l 1) l (round-whole f false l (le-trans L K)) (div-mul-le-self (m * up e) (down e)) ∙ ap (λ (z : ℕ). round f false z (down e)) (sym (mod-eq-sub-div-mul (m * up e) (down e)))))
+    (sym (sub-whole f m e (round f false l 1) l (round-whole f false l (le-trans L K)) (div-mul-le-self (m * up e) (down e))
+    ∙ ap (λ (z : ℕ). round f false z (down e)) (sym (mod-eq-sub-div-mul (m * up e) (down e)))))
     (positive-fraction (round f false (m * up e % down e) (down e)) (m * up e % down e) (down e) (down-pos e) (mod-lt (m * up e) (down-pos e)) (rest-value f m e t)))
 
 -- ---- the laws
@@ -379,9 +384,6 @@ index-between x a b w g h = le-antisymm (index-from x a w g) (index-below x b h)
 -- every operation's result fits its format: `mul-fits`, `div-fits` of lib.Ieee.Fits
 pub upto-fraction : (f : Format) {x : Float} {k i : ℕ} → Upto x k → k ≤ 2 ^ prec f → T (fits f x) → i ≡ toUnsigned 64 x → Fraction (sub f x (ofInt f (pos i)))
 upto-fraction f {x} {k} u K t e = subst (λ (i : ℕ). Fraction (sub f x (ofInt f (pos i)))) (sym e) (within-fraction f x k K t (u .within))
-
-pub fraction-upto : {x : Float} → Fraction x → Upto x 1
-fraction-upto h = record { within = h .within }
 
 -- x is at most j: times k and divided by j again it is at most k
 pub scaled-upto : (f : Format) {x n y : Float} {j k : ℕ} → 0 < j → j * k ≤ 2 ^ prec f → Upto x j → Whole n k → Whole y j → Upto (div f (mul f x n) y) k
@@ -452,10 +454,12 @@ pub curve-index : (x : Float) → toUnsigned 64 (mul binary32 (clampOf x (ofBits
 unfolding ofBits
 curve-index = index-law binary32 (lit≤ tt) zero32 one32 (literal (ofBits binary32 0x44ff_e000) 2047 (refl, refl))
 
-pub load-index : (x : Float) → toUnsigned 64 (div binary32 (mul binary32 (clampOf x (ofBits binary32 0) (ofBits binary32 0x4110_0000)) (ofBits binary32 0x4310_0000)) (ofBits binary32 0x4110_0000)) ≤ 144
+pub load-index : (x : Float)
+    → toUnsigned 64 (div binary32 (mul binary32 (clampOf x (ofBits binary32 0) (ofBits binary32 0x4110_0000)) (ofBits binary32 0x4310_0000)) (ofBits binary32 0x4110_0000)) ≤ 144
 unfolding ofBits
 load-index =
-    load-index-law binary32 (lit< tt) (lit≤ tt) zero32 (literal (ofBits binary32 0x4110_0000) 9 (refl, refl)) (literal (ofBits binary32 0x4310_0000) 144 (refl, refl)) (literal (ofBits binary32 0x4110_0000) 9 (refl, refl))
+    let nine = literal (ofBits binary32 0x4110_0000) 9 (refl, refl) in
+    load-index-law binary32 (lit< tt) (lit≤ tt) zero32 nine (literal (ofBits binary32 0x4310_0000) 144 (refl, refl)) nine
 
 pub loading-index : (c : ℕ) → c ≤ 2047 → toUnsigned 64 (div binary32 (mul binary32 (ofInt binary32 (pos c)) (ofBits binary32 0x41f8_0000)) (ofBits binary32 0x44ff_e000)) ≤ 31
 unfolding ofBits
@@ -468,5 +472,6 @@ unfolding ofBits
 loading-any c h =
     let times : c * 31 ≤ 2 ^ 24 = omega arith in
     let parts : c * 31 ≤ 8196 * 2047 = omega arith in
-    let x : Upto (mul binary32 (ofInt binary32 (pos c)) (ofBits binary32 0x41f8_0000)) (c * 31) = mul-upto binary32 times (whole-upto (ofInt-whole binary32 c (omega arith))) (literal (ofBits binary32 0x41f8_0000) 31 (refl, refl)) in
+    let x : Upto (mul binary32 (ofInt binary32 (pos c)) (ofBits binary32 0x41f8_0000)) (c * 31) =
+    mul-upto binary32 times (whole-upto (ofInt-whole binary32 c (omega arith))) (literal (ofBits binary32 0x41f8_0000) 31 (refl, refl)) in
     le-trans (upto-index (div-upto binary32 {j = 8196} {k = 2047} (lit≤ tt) (lit< tt) (upto-more parts x) (literal (ofBits binary32 0x44ff_e000) 2047 (refl, refl))) refl) (lit≤ tt)

@@ -1,16 +1,17 @@
 -- Rounding half away from zero: below 2 ^ (prec - 1) by the whole part of twice the magnitude; from there on every value is whole. Assumes nothing.
 use mathlib.Core.Path.{_≡_, refl, sym, ap, _∙_, subst}
 use mathlib.Core.Bool.{Bool, true, false, not, _&&_, cond, true≢false}
-use Prim.Native.Nat.{ℕ, zero, suc, _+_, _-_, _*_, _/_, _%_, _^_, _≤_, _<_, min, suc-le-suc}
-use native.Mathlib.Nat.{mul-le-mul-right, zero-mul, lt-irrefl, mul-one, mul-left-comm, two-mul, add-mul, pow-succ', add-div-right, div-div-eq-div-mul, mul-comm, mul-assoc, mul-pos, lt-of-lt-of-le, lt-of-le-of-lt, lt-of-mul-lt-mul-right, lt-of-not-le, not-le-of-lt, mul-lt-mul-of-pos-right, mul-right-comm, le-of-eq, le-trans, div-lt-iff-lt-mul}
+use Prim.Native.Nat.{ℕ, zero, suc, _+_, _-_, _*_, _/_, _^_, _≤_, _<_}
+use native.Mathlib.Nat.{mul-le-mul-right, zero-mul, lt-irrefl, mul-one, mul-left-comm, two-mul, add-mul, pow-succ', add-div-right, div-div-eq-div-mul, mul-comm, mul-assoc, mul-pos}
+use native.Mathlib.Nat.{lt-of-lt-of-le, not-le-of-lt, le-of-eq, le-trans, div-lt-iff-lt-mul}
 use native.Mathlib.Omega.{arith}
 use borrow.Author.Tests.{ltb-true, ltb-false, eqb-true, eq-eqb, lt-ltb, le-ltb}
 use lib.IntN.{ℤ, pos, negsuc}
-use lib.Dec.{T, ltb, leb, eqb, eqb→eq, ltb→lt, leb→le, lit<, lit≤}
-use lib.Pow.{pow-add, pow-pos, pow-lt, pow-mono}
+use lib.Dec.{T, ltb, eqb, eqb→eq, lit<, lit≤}
+use lib.Pow.{pow-add, pow-pos, pow-mono}
 use lib.Ieee.{Float, nan, inf, fin, Format, binary32, prec, emax, low, up, down, lt, eq, neg, sum, add, round, units, odd, ofBits, ofInt, fits, toUnsigned}
-use lib.Ieee.Exact.{HasValue, round-exact}
-use lib.Ieee.Fits.{up-pos, down-pos, and-l, and-r, round-is, round-fits}
+use lib.Ieee.Exact.{HasValue}
+use lib.Ieee.Fits.{up-pos, down-pos, round-is, round-fits}
 use lib.Ieee.Scale.{round-same}
 use lib.Ieee.Back.{whole-unique}
 use Rattle.floats.specs.Floats.{absOf, roundOf, ofSmall}
@@ -147,7 +148,9 @@ halves (fin s (suc m) e) n h z l q =
     (omega arith, rw (sign-told s m e, nn, half a d (down-pos e)) (signed s ((2 * a / d + 1) / 2)))
 
 -- a is the magnitude, n the whole part of twice it, and w the whole number that is rounded to
-module _ (x : Float) {a : Float} {n : ℕ} (h : T (fits binary32 x)) (p : a ≡ absOf x) (z : eq a (ofBits binary32 0) ≡ false) (l : lt a (ofBits binary32 0x4b00_0000) ≡ true) (q : n ≡ toUnsigned 64 (add binary32 a a)) where
+module _
+    (x : Float) {a : Float} {n : ℕ} (h : T (fits binary32 x)) (p : a ≡ absOf x) (z : eq a (ofBits binary32 0) ≡ false)
+    (l : lt a (ofBits binary32 0x4b00_0000) ≡ true) (q : n ≡ toUnsigned 64 (add binary32 a a)) where
   pub half-few : n < 16777216
   half-few = halves x n h (rw p at z) (rw p at l) (rw p at q) .0
 

@@ -1,7 +1,7 @@
 -- Rust's operations on floats that Rattle lacks, as functions on IEEE values, for every input. The kit's own symbols say the rest:
 -- `finite` is Rust's is_finite, `toUnsigned 64` its `as usize`, `toSigned 15` its `as i16`, and `ofInt` its `as f32` of an integer.
 use Prim.Native.Nat.{ℕ, _+_, _*_, _/_, min}
-use mathlib.Core.Bool.{Bool, true, false, cond}
+use mathlib.Core.Bool.{false, cond}
 use lib.IntN.{pos}
 use lib.Ieee.{Float, nan, inf, fin, Format, binary32, up, down, lt, round, ofInt}
 

@@ -1,4 +1,5 @@
-// Rust's operations on floats that Rattle lacks. Each is total and exact for every input: a NaN, the infinities and both zeros included.
+// Rust's operations on floats that Rattle lacks. Each public one gives Rust's value for every input, a NaN, the infinities and both zeros included;
+// `of_usize` alone stops at 2^24.
 ghost use mathlib.Core.Path.{_≡_};
 ghost use lib.IntN.{pos};
 ghost use mathlib.Core.Bool.{false, not};
@@ -6,7 +7,7 @@ ghost use lib.Dec.{T};
 ghost use lib.Ieee.{binary32, binary64, isNan, ofFields, ofInt, toUnsigned, toSigned};
 ghost use Prim.Native.Nat.{_<_, _≤_};
 ghost use lib.Ieee.Scale.{finite};
-ghost use lib.Ieee.Nearest.{closest as nearestOf};
+ghost use lib.Ieee.Nearest.{closest as closestOf};
 ghost use Rattle.floats.specs.Floats.{absOf, clampOf, roundOf, narrowOf, ofSmall};
 
 // x.abs(), by clearing the sign bit.
@@ -182,7 +183,7 @@ fn narrow_size(exponent: u64, digits: u64) -> f32
 // a / b to the nearest whole number, and the even one where two are as near.
 fn closest(a: u64, b: u64) -> u32
     requires { ⌜ (a < 9007199254740992) × (536870912 ≤ b) × (b ≤ 18014398509481984) ⌝ }
-    ensures { λ r. ⌜ r ≡ nearestOf a b ⌝ }
+    ensures { λ r. ⌜ r ≡ closestOf a b ⌝ }
 {
     let whole = (a / b) as u32;
     let rest = a % b * 2;

@@ -1,12 +1,15 @@
 -- Document 01's facts of the topology: memberships are disjoint; they total four, or three exactly if mode bit 3 is set and routing bit 2
 -- clear; the mixer has at most seven inputs, so that the Rust's bound changes nothing. Assumes nothing.
-use mathlib.Core.Path.{_≡_, refl, sym, ap, _∙_}
+use mathlib.Core.Path.{_≡_, refl, _∙_}
 use mathlib.Core.Bool.{Bool, true, false, not, _&&_, cond}
-use Prim.Native.Nat.{ℕ, _+_, _≤_, min}
+use mathlib.Core.List.{[], _∷_}
+use Prim.Native.Nat.{ℕ, _+_, _≤_}
 use native.Mathlib.Omega.{arith}
 use lib.Dec.{eqb}
+use lib.Ieee.{ofBits, ofInt, div}
+use Rattle.floats.specs.Arithmetic.{f32}
 use Rattle.response.specs.Bits.{bit}
-use Rattle.mixing.specs.Topology.{one, filteredOf, bypassedOf, filterCountOf, bypassCountOf, outputCountOf, mixerCountOf}
+use Rattle.mixing.specs.Topology.{one, filteredOf, bypassedOf, filterCountOf, bypassCountOf, outputCountOf, mixerCountOf, reciprocalOf, topologyOf}
 
 pub disjoint : (routing mode index : ℕ) → (filteredOf routing index && bypassedOf routing mode index) ≡ false
 disjoint routing mode index = go (filteredOf routing index) (eqb index 2 && bit mode 3)
@@ -57,3 +60,21 @@ mixer-is routing mode = omega (arith, bypass-most routing mode, output-most mode
 pub mixer-most : (routing mode : ℕ) → mixerCountOf routing mode ≤ 7
 unfolding mixerCountOf
 mixer-most routing mode = omega arith
+
+-- `MixingTopology::new`, field by field from mixing.rs, is `update` at routing 0 and mode 0.
+pub new-is-update : topologyOf 0 0 ≡
+    record {
+      «filter_membership» = false ∷ false ∷ false ∷ false ∷ [];
+      «bypass_membership» = true ∷ true ∷ true ∷ true ∷ [];
+      «filter_input_count» = 0;
+      «bypass_input_count» = 4;
+      «filter_output_count» = 0;
+      «mixer_input_count» = 4;
+      «filter_input_reciprocal» = f32 0;
+      «summer_input_reciprocal» = f32 0x3f00_0000;
+      «mixer_input_reciprocal» = f32 0x3e80_0000;
+      «filter_internal_mask» = 0;
+      «bypass_internal_mask» = 0x07;
+    }
+unfolding topologyOf filterCountOf bypassCountOf outputCountOf mixerCountOf reciprocalOf ofBits ofInt div
+new-is-update = refl

@@ -215,7 +215,7 @@ sample-few s true (Taken o j) a = omega arith
 sample-few s true (Refused b) a = omega arith
 sample-few s false x a = omega arith
 
-step-few : (bundle curves : List ℕ) (s : State) (e : Event) → length (plainStep bundle curves s e .sample) ≤ S.filterSampleOf e
+step-few : (bundle curves : List ℕ) (s : State) (e : Event) → length (plainStep bundle curves s e .sample) ≤ S.sampleCountOf e
 unfolding plainSample
 step-few bundle curves s (Sample sum energy) =
     let topology = freshTopologyOf s in
@@ -233,7 +233,7 @@ played-few bundle curves s [] = omega arith
 played-few bundle curves s (e ∷ es) = go (isDoneOf (plainStep bundle curves s e .answer)) (played-few bundle curves (plainStep bundle curves s e .state) es)
   where
     go : (d : Bool) → length (playOf bundle curves (plainStep bundle curves s e .state) es .samples) ≤ samplesOf es
-        → length (cond d (went (plainStep bundle curves s e) (playOf bundle curves (plainStep bundle curves s e .state) es)) (stopped (plainStep bundle curves s e .answer) s) .samples) ≤ S.filterSampleOf e + samplesOf es
+        → length (cond d (went (plainStep bundle curves s e) (playOf bundle curves (plainStep bundle curves s e .state) es)) (stopped (plainStep bundle curves s e .answer) s) .samples) ≤ S.sampleCountOf e + samplesOf es
     go true h =
         let p = plainStep bundle curves s e in
         let r = playOf bundle curves (p .state) es in

@@ -50,7 +50,7 @@ kept-sample bundle curves s {k} is mode hi hf hs i sum energy = rw (hi, hf, hs, 
 
 -- ---- the samples among events
 
-asked-one : (e : Event) → askedOf e .sample ≡ true → S.filterSampleOf e ≡ 1
+asked-one : (e : Event) → askedOf e .sample ≡ true → S.sampleCountOf e ≡ 1
 asked-one (CutoffLow v) h = absurd (true≢false (sym h))
 asked-one (CutoffHigh v) h = absurd (true≢false (sym h))
 asked-one (Routing v) h = absurd (true≢false (sym h))
@@ -85,7 +85,7 @@ module _ (bundle curves : List ℕ) (t : MixingTopology) (c : ControlCache) (mod
   outputs-few i (e ∷ es) = go (askedOf e .sample) refl (sampled i e es) (λ (j : IntegratorState). outputs-few j es)
     where
       go : (a : Bool) → askedOf e .sample ≡ a → (x : Sampled) → ((j : IntegratorState) → length (rowOf bundle curves t c mode j es .outputs) ≤ samplesOf es)
-          → length (cond a (rowOn (λ j. rowOf bundle curves t c mode j es) i x) (noSamples Done i) .outputs) ≤ S.filterSampleOf e + samplesOf es
+          → length (cond a (rowOn (λ j. rowOf bundle curves t c mode j es) i x) (noSamples Done i) .outputs) ≤ S.sampleCountOf e + samplesOf es
       go true h (Taken o j) later = omega (arith, later j, asked-one e h)
       go true h (Refused answer) later = omega arith
       go false h x later = omega arith
@@ -160,7 +160,7 @@ module _ (bundle curves : List ℕ) (t : MixingTopology) (c : ControlCache) (mod
               let later = row k (left (i + 1)) in
               let whole : row j (left i) ≡ oneMore o later = ap (row j) next ∙ row-taken j e (left (i + 1)) a o k h in
               let one = asked-one e a in
-              let asks : samplesOf (left i) ≡ S.filterSampleOf e + samplesOf (left (i + 1)) = ap samplesOf next in
+              let asks : samplesOf (left i) ≡ S.sampleCountOf e + samplesOf (left (i + 1)) = ap samplesOf next in
               let room = far .room in
               let few = far .few in
               let l = length-putAt out (16 * samples) (outputBytes o) in

@@ -4,8 +4,9 @@ use Prim.Native.Nat.{ℕ, _+_, _%_, min}
 use mathlib.Core.Bool.{Bool, cond, _&&_}
 use mathlib.Core.List.{List}
 use lib.Dec.{eqb, leb, ltb}
+use lib.IntN.{pos}
 use lib.ListN.{getD}
-use lib.Ieee.{Float, nan, eq}
+use lib.Ieee.{Float, nan, eq, binary32, ofInt}
 use lib.Ieee.Scale.{finite}
 use Rattle.constants.specs.Values as K
 use Rattle.answers.specs.declared.Answer.{Answer}
@@ -13,7 +14,6 @@ use Rattle.answers.specs.declared.Answer.the-variants.{Done, InputNotFinite, Do
 use Rattle.answers.specs.declared.Buffer.the-variants.{Bundle, Curves}
 use Rattle.answers.specs.Answers.{firstOf, unlessOf, isDoneOf}
 use Rattle.floats.specs.Arithmetic.{_⊕_, _⊖_, _⊗_, _⊘_, f32}
-use Rattle.floats.specs.Floats.{ofSmall}
 use Rattle.integrator.specs.declared.IntegratorState.{IntegratorState}
 use Rattle.integrator.specs.declared.FilterOutputs.{FilterOutputs}
 use Rattle.integrator.specs.declared.Coefficients.{Coefficients}
@@ -133,10 +133,14 @@ mixedOf f mode o =
     (levelOf (o .«band_pass» ⊕ f .«band_pass_low_coupling» ⊗ o .«low_pass») 1)
     (levelOf (o .«high_pass» ⊕ f .«high_pass_low_coupling» ⊗ o .«low_pass») 2)
 
+-- filter_output_count. A count above 3, which no mode has, counts as 3.
+abbrev pub selectedOutputsOf : ℕ → ℕ
+selectedOutputsOf count = min count 3
+
 -- the gain acts about the outputs' level at rest
 unfoldable pub selectFilterOutputOf : ControlCache → ℕ → ℕ → FilterOutputs → Float
 selectFilterOutputOf c count mode o =
-    let resting = filterModeQuiescentLevelOf ⊗ ofSmall count in
+    let resting = filterModeQuiescentLevelOf ⊗ ofInt binary32 (pos (selectedOutputsOf count)) in
     resting ⊕ (mixedOf (c .filter) mode o ⊖ resting) ⊗ c .«mode_output_gain» ⊗ c .filter .«resonance_output_gain»
 
 -- ---- the sample

@@ -71,8 +71,7 @@ pub fn summer_transfer(
 {
     let inputs = summer_inputs(topology.filter_input_count);
     let average = average(topology, input_sum);
-    curves::sample_curve(curves, slot, average)
-        - curves::summer_resting_output(bundle, inputs as usize)
+    curves::sample_curve(curves, slot, average) - curves::summer_resting_output(bundle, inputs)
 }
 
 // The entries that it reads, in its order.
@@ -88,17 +87,14 @@ pub fn judge_summer(
     let inputs = summer_inputs(topology.filter_input_count);
     let average = average(topology, input_sum);
     let curve = curves::judge_sample_curve(curves, slot, average);
-    answers::first(
-        curve,
-        curves::judge_summer_resting_output(bundle, inputs as usize),
-    )
+    answers::first(curve, curves::judge_summer_resting_output(bundle, inputs))
 }
 
 // The summer's output at rest for a topology: a run keeps it until the routing changes.
 pub fn rest_of(bundle: &[u8], topology: MixingTopology) -> Read
     ensures { λ r. ⌜ r ≡ K.restOf (now (bundle .entry)) topology ⌝ }
 {
-    curves::read_resting_output(bundle, summer_inputs(topology.filter_input_count) as usize)
+    curves::read_resting_output(bundle, summer_inputs(topology.filter_input_count))
 }
 
 // What the core is fed: nothing where it is idle, the summer's output above its rest, or a refusal.
@@ -109,7 +105,13 @@ pub enum CoreInput {
 }
 
 // The summer's output above a rest that is handed in, each entry judged as it is read.
-fn summed(curves: &[u8], slot: u8, topology: MixingTopology, rest: Read, input_sum: f32) -> CoreInput
+fn summed(
+    curves: &[u8],
+    slot: u8,
+    topology: MixingTopology,
+    rest: Read,
+    input_sum: f32,
+) -> CoreInput
     ensures { λ r. ⌜ r ≡ K.summedOf (now (curves .entry)) slot topology rest «input_sum» ⌝ }
 {
     let curve = curves::read_curve(curves, slot, average(topology, input_sum));
@@ -251,6 +253,13 @@ fn mixed(core: CoreControls, mode: u8, o: FilterOutputs) -> f32
     mode_sum(mode % 8, low, band, high)
 }
 
+// The outputs that a mode selects; no mode has more than three.
+fn selected_outputs(count: usize) -> u8
+    ensures { λ r. ⌜ r ≡ S.selectedOutputsOf count ⌝ }
+{
+    if count < 3 { count as u8 } else { 3 }
+}
+
 // The selected value, for a count of selected outputs.
 fn select_filter_output(
     core: CoreControls,
@@ -261,7 +270,8 @@ fn select_filter_output(
 ) -> f32
     ensures { λ r. ⌜ r ≡ S.selectFilterOutputOf (K.cacheOf [] [] [] core «mode_output_gain») count mode o ⌝ }
 {
-    let resting = response::filter_mode_quiescent_level() * floats::of_usize(count);
+    let resting = response::filter_mode_quiescent_level()
+        * floats::of_u16(selected_outputs(count) as u16);
     resting + (mixed(core, mode, o) - resting) * mode_output_gain * core.resonance_output_gain
 }
 

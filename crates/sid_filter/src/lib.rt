@@ -2,7 +2,7 @@
 ghost use mathlib.Core.Path.{_≡_};
 ghost use lib.ListN.{length};
 ghost use Rattle.bundle.specs.Opening.{openOf};
-ghost use Rattle.curves.specs.Building.{buildAnswerOf, builtOf};
+ghost use Rattle.curves.specs.Building.{judgeBuildOf, buildOf};
 ghost use Rattle.ladder.specs.Calls.{solveTridiagonalOf, ladderWeightsOf, ladderValueOf, buildCutoffControlPositionsOf};
 ghost use Rattle.run.specs.Run.{runOf};
 ghost use Rattle.sid_filter.specs.Calls.{runAnswerOf, ranAnswerOf, valueOr, loadOr, loadPositionCallOf, sampleCallOf, sampleCurveCallOf};
@@ -47,8 +47,8 @@ pub extern "C" fn sid_filter_open(bundle: &[u8]) -> RunAnswer
 // Builds the 31 curves into the lent bytes. Refuses 1, 2, 4, 3, and then leaves them.
 #[no_mangle]
 pub extern "C" fn sid_filter_build_curves(bundle: &[u8], curves: &mut [u8]) -> RunAnswer
-    ensures { λ r. ⌜ r ≡ runAnswerOf (buildAnswerOf (now (bundle .entry)) (length (now (curves .entry)))) 0 0 ⌝ }
-    ensures { λ _. ⌜ now (curves .exit) ≡ builtOf (now (bundle .entry)) (now (curves .entry)) ⌝ }
+    ensures { λ r. ⌜ r ≡ runAnswerOf (judgeBuildOf (now (bundle .entry)) (now (curves .entry))) 0 0 ⌝ }
+    ensures { λ _. ⌜ now (curves .exit) ≡ buildOf (now (bundle .entry)) (now (curves .entry)) ⌝ }
 {
     run_answer(curves::build(bundle, curves), 0, 0)
 }

@@ -51,7 +51,13 @@ fn replay_all(bundle: &[u8]) {
 // Each kind with its file and the number of words in its records.
 fn replay_files(bundle: &[u8], curves: &[u8]) {
     replay_file(Kind::Words, b"words.bin", 3, bundle, curves);
-    replay_file(Kind::AnalogueLoadPosition, b"load_position.bin", 4, bundle, curves);
+    replay_file(
+        Kind::AnalogueLoadPosition,
+        b"load_position.bin",
+        4,
+        bundle,
+        curves,
+    );
     replay_file(Kind::Sample, b"sample.bin", 3, bundle, curves);
     replay_file(Kind::SampleCurve, b"sample_curve.bin", 3, bundle, curves);
     replay_file(Kind::Curves, b"curves.bin", 2, bundle, curves);

@@ -8,15 +8,16 @@ use borrow.Author.Count.{below-more}
 use borrow.Author.Needs.{needs}
 use borrow.Author.Tests.{eq-eqb, ne-eqb}
 use Rattle.wire.proofs.First.{first-is}
+use Rattle.bundle.specs.Layout.{headerLength}
 use Rattle.bundle.specs.Opening.{headerByte}
 use Rattle.bundle.proofs.difference_from.Statement.{statement}
 use Rattle.bundle.proofs.difference_from.Tie as tie
 
 abbrev Inv-loop : tie.InvT-loop
-Inv-loop bundle from i₀ i = (i ≤ 56) × ((k : ℕ) → k < i → headerByte bundle k ≡ true)
+Inv-loop bundle from i₀ i = (i ≤ headerLength) × ((k : ℕ) → k < i → headerByte bundle k ≡ true)
 
 abbrev μ-loop : tie.MeasureT-loop
-μ-loop bundle from i₀ i = 56 - i
+μ-loop bundle from i₀ i = headerLength - i
 
 loop-holds : tie.Need-loop-holds Inv-loop μ-loop
 loop-holds c = c .before .pre
@@ -34,7 +35,7 @@ returns : tie.Need-returns Inv-loop μ-loop
 unfolding headerByte
 returns c =
     let z = c .before .before .before .before in
-    sym (first-is (headerByte (now (z .before .before .args .bundle))) 56 0 (z .loop .i) (search needs) (search needs) (λ k _. z .loop .inv .1 k)
+    sym (first-is (headerByte (now (z .before .before .args .bundle))) headerLength 0 (z .loop .i) (search needs) (search needs) (λ k _. z .loop .inv .1 k)
     (λ _. ne-eqb _ _ (λ e. c .if1 .taken (c .before .before .byte-at .ensures ∙ e ∙ sym (c .before .header-byte .ensures)))))
 
 add-i : tie.Need-add-i Inv-loop μ-loop
@@ -52,7 +53,7 @@ loop-again c =
 returns-2 : tie.Need-returns-2 Inv-loop μ-loop
 returns-2 c =
     let z = c .before in
-    sym (first-is (headerByte (now (z .before .before .args .bundle))) 56 0 (z .loop .i) (search needs) (search needs) (λ k _. z .loop .inv .1 k) (λ l. absurd (omega arith)))
+    sym (first-is (headerByte (now (z .before .before .args .bundle))) headerLength 0 (z .loop .i) (search needs) (search needs) (λ k _. z .loop .inv .1 k) (λ l. absurd (omega arith)))
 
 pub difference-from-spec : {M : Type 1} → statement M
 difference-from-spec =

@@ -12,7 +12,7 @@ use borrow.Author.Needs.{needs}
 use borrow.Author.Tests.{not-false}
 use Rattle.wire.proofs.Laws.{le-or-lt}
 use Rattle.wire.proofs.First.{first-is}
-use Rattle.bundle.specs.Layout.{bundleLength, sections, pairs}
+use Rattle.bundle.specs.Layout.{bundleLength, headerLength, sections, pairs}
 use Rattle.bundle.specs.Opening.{headerByte}
 use Rattle.bundle.proofs.first_difference.Statement.{statement}
 use Rattle.bundle.proofs.first_difference.Tie as tie
@@ -68,7 +68,7 @@ loop-again c =
 returns-2 : tie.Need-returns-2 Inv-loop μ-loop
 returns-2 c =
     let z = c .before in
-    sym (first-is (headerByte (now (z .before .before .args .bundle))) 56 0 56 (search needs) (search needs) (λ k _ l. z .loop .inv .2 k (omega arith)) (λ l. absurd (omega arith)))
+    sym (first-is (headerByte (now (z .before .before .args .bundle))) headerLength 0 headerLength (search needs) (search needs) (λ k _ l. z .loop .inv .2 k (omega arith)) (λ l. absurd (omega arith)))
 
 pub first-difference-spec : {M : Type 1} → statement M
 first-difference-spec =

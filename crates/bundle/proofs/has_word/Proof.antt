@@ -48,7 +48,8 @@ returns c told =
     let z = d .before in
     let y = z .before in
     let x = y .before in
-    word-told _ _ (x .byte-at .ensures) (y .byte-at2 .ensures) (z .byte-at3 .ensures) (d .byte-at4 .ensures) (omega arith) (omega arith) (omega arith) (omega arith) (sym (c .join4 .ensures) ∙ eqb-true _ _ told ∙ x .before .before .pre .1)
+    word-told _ _ (x .byte-at .ensures) (y .byte-at2 .ensures) (z .byte-at3 .ensures) (d .byte-at4 .ensures) (omega arith) (omega arith) (omega arith) (omega arith)
+    (sym (c .join4 .ensures) ∙ eqb-true _ _ told ∙ x .before .before .pre .1)
 
 pub has-word-spec : {M : Type 1} → statement M
 has-word-spec =

@@ -41,7 +41,8 @@ loop-again : tie.Need-loop-again Inv-loop μ-loop
 loop-again c =
     let z = c .before .before .before .before in
     let a = z .before .before .before .args in
-    (search needs, z .loop .inv .1 ∙ judge-on (a .buffer) (now (a .bytes)) (now (a .places)) (z .loop .i) (c .before .before .before .loop-test .taken) (sym (c .before .usable-at .ensures) ∙ c .if1 .taken))
+    let inside = c .before .before .before .loop-test .taken in
+    (search needs, z .loop .inv .1 ∙ judge-on (a .buffer) (now (a .bytes)) (now (a .places)) (z .loop .i) inside (sym (c .before .usable-at .ensures) ∙ c .if1 .taken))
 
 returns : tie.Need-returns Inv-loop μ-loop
 returns c =

@@ -9,6 +9,9 @@ check-requires c κs = search needs
 is-done-requires : tie.Need-is-done-requires
 is-done-requires c κs = search needs
 
+cast-judge-section : tie.Need-cast-judge-section
+cast-judge-section c = search needs
+
 judge-section-requires : tie.Need-judge-section-requires
 judge-section-requires c κs = search needs
 
@@ -25,4 +28,4 @@ returns-2 c =
     simp (← z .before .check .ensures, ← z .is-done .ensures, c .if1 .left)
 
 pub open-spec : {M : Type 1} → statement M
-open-spec = tie.close (tie.spec check-requires is-done-requires judge-section-requires returns returns-2)
+open-spec = tie.close (tie.spec check-requires is-done-requires cast-judge-section judge-section-requires returns returns-2)

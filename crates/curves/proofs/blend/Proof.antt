@@ -1,7 +1,7 @@
 use Prim.Native.Nat.{min}
 use mathlib.Core.Path.{_≡_}
 use native.Mathlib.Omega.{arith}
-use Rattle.curves.specs.Building.{blendOf}
+use Rattle.curves.specs.Inner.{blendOf}
 use borrow.Author.Needs.{needs}
 use Rattle.curves.proofs.blend.Statement.{statement}
 use Rattle.curves.proofs.blend.Tie as tie

@@ -8,7 +8,7 @@ use lib.ListN.{length}
 use denote.Ref.{now}
 use borrow.Author.Needs.{needs}
 use Rattle.wire.specs.Wire.{floatBytes, putAt, rows}
-use Rattle.curves.specs.Building.{blendOf, blendsOf}
+use Rattle.curves.specs.Inner.{rowLength, blendOf, blendRowsOf}
 use Rattle.curves.proofs.Building.{none-put, one-more, all-put, length-entry, last-again}
 use Rattle.curves.proofs.blend_rows.Statement.{statement}
 use Rattle.curves.proofs.blend_rows.Tie as tie
@@ -69,7 +69,7 @@ same-length : tie.Need-same-length Inv-loop μ-loop
 same-length c = let p = c .before .before in p .put-f322 .kept .0 ∙ p .before .before .before .before .loop .inv .1
 
 returns : tie.Need-returns Inv-loop μ-loop
-unfolding blendsOf
+unfolding blendRowsOf
 returns c =
     let p = c .before .before in
     let z = p .before .before .before .before in
@@ -79,8 +79,8 @@ returns c =
     let r = bytes (now (a .lower)) (now (a .upper)) (a .fraction) (a .curve) in
     let end : z .loop .k ≡ 2048 = omega arith in
     p .put-f322 .ensures
-    ∙ ap (λ (y : Float). putAt (z .loop .row) 8192 (floatBytes y)) (p .before .blend2 .ensures ∙ last-again (now (a .lower)) (now (a .upper)) (a .fraction) (a .curve))
-    ∙ ap (λ (l : List ℕ). putAt l 8192 (floatBytes (x 2048))) (z .loop .inv .2 ∙ ap (λ (k : ℕ). putAt (now (a .row)) 0 (rows r k)) end)
+    ∙ ap (λ (y : Float). putAt (z .loop .row) rowLength (floatBytes y)) (p .before .blend2 .ensures ∙ last-again (now (a .lower)) (now (a .upper)) (a .fraction) (a .curve))
+    ∙ ap (λ (l : List ℕ). putAt l rowLength (floatBytes (x 2048))) (z .loop .inv .2 ∙ ap (λ (k : ℕ). putAt (now (a .row)) 0 (rows r k)) end)
     ∙ one-more r 4 (length-entry x) (now (a .row)) 2048 (omega (arith, s .pre .0))
     ∙ all-put r 4 (length-entry x) (now (a .row)) 2049 (s .pre .0)
 

@@ -1,7 +1,7 @@
 use mathlib.Core.Path.{_∙_}
 use Prim.Native.Nat.{ℕ, _≤_}
 use denote.Ref.{now}
-use Rattle.curves.specs.Building.{tableRowOf, UsableRow}
+use Rattle.curves.specs.Inner.{tableRowOf, UsableRow}
 use Rattle.curves.proofs.Laws.{load-lower, load-upper}
 use Rattle.curves.proofs.Building.{row-usable, blends-curve}
 use borrow.Author.Needs.{needs}

@@ -1,7 +1,7 @@
+-- The invariant: the curves so far stand at the front of the buffer.
 use borrow.Rule.Slice.PartMut.{putMid}
 use Rattle.wire.proofs.Laws.{length-part, length-putAt}
 use Rattle.curves.proofs.Building.{none-put, one-more, all-put, put-part, length-curve}
--- The invariant: the curves so far stand at the front of the buffer.
 use Prim.Native.Nat.{ℕ, _+_, _-_, _*_, _≤_}
 use mathlib.Core.Path.{_≡_, refl, ap, _∙_}
 use mathlib.Core.List.{List}
@@ -10,18 +10,18 @@ use lib.ListN.{length}
 use denote.Ref.{now}
 use borrow.Author.Needs.{needs}
 use Rattle.wire.specs.Wire.{putAt, rows}
-use Rattle.curves.specs.Building.{curveOf, curvesOf}
+use Rattle.curves.specs.Building.{curveLength, buildCurveOf, buildCurvesOf}
 use Rattle.curves.proofs.build_curves.Statement.{statement}
 use Rattle.curves.proofs.build_curves.Tie as tie
 
 abbrev Inv-loop : tie.InvT-loop
-Inv-loop bundle curves₀ curve₀ curves curve = (curve ≤ 31) × (length curves ≡ length curves₀) × (curves ≡ putAt curves₀ 0 (rows (curveOf bundle) curve))
+Inv-loop bundle curves₀ curve₀ curves curve = (curve ≤ 31) × (length curves ≡ length curves₀) × (curves ≡ putAt curves₀ 0 (rows (buildCurveOf bundle) curve))
 
 abbrev μ-loop : tie.MeasureT-loop
 μ-loop bundle curves₀ curve₀ curves curve = 31 - curve
 
 loop-holds : tie.Need-loop-holds Inv-loop μ-loop
-loop-holds c = let a = c .before .before .args in (search needs, refl, none-put (curveOf (now (a .bundle))) 8196 (length-curve (now (a .bundle))) (now (a .curves)))
+loop-holds c = let a = c .before .before .args in (search needs, refl, none-put (buildCurveOf (now (a .bundle))) curveLength (length-curve (now (a .bundle))) (now (a .curves)))
 
 cast-from : tie.Need-cast-from Inv-loop μ-loop
 cast-from c = search needs
@@ -45,9 +45,9 @@ build-curve-requires : tie.Need-build-curve-requires Inv-loop μ-loop
 build-curve-requires c κs =
     let z = c .before .before in
     let s = z .before .before .before in
-    let from = 8196 * z .loop .curve in
-    let e : from + 8196 - from ≡ 8196 = omega arith in
-    (s .pre .0, rw e (length-part 8196 (z .loop .curves) from (omega (arith, s .pre .1))))
+    let from = curveLength * z .loop .curve in
+    let e : from + curveLength - from ≡ curveLength = omega arith in
+    (s .pre .0, rw e (length-part curveLength (z .loop .curves) from (omega (arith, s .pre .1))))
 
 add-curve : tie.Need-add-curve Inv-loop μ-loop
 add-curve c = search needs
@@ -61,28 +61,28 @@ loop-again c =
     let z = p .before .before .before in
     let s = z .before .before .before in
     let a = s .args in
-    let r = curveOf (now (a .bundle)) in
+    let r = buildCurveOf (now (a .bundle)) in
     let k = z .loop .curve in
-    let from = 8196 * k in
-    let told : putMid from (from + 8196 - from) (z .loop .curves) (p .build-curve .last .1 .0) ≡ putAt (now (a .curves)) 0 (rows r (k + 1)) =
-    ap (putMid from (from + 8196 - from) (z .loop .curves)) (p .build-curve .ensures)
-    ∙ put-part from 8196 (z .loop .curves) (r k) (length-curve (now (a .bundle)) k) (omega (arith, s .pre .1))
+    let from = curveLength * k in
+    let told : putMid from (from + curveLength - from) (z .loop .curves) (p .build-curve .last .1 .0) ≡ putAt (now (a .curves)) 0 (rows r (k + 1)) =
+    ap (putMid from (from + curveLength - from) (z .loop .curves)) (p .build-curve .ensures)
+    ∙ put-part from curveLength (z .loop .curves) (r k) (length-curve (now (a .bundle)) k) (omega (arith, s .pre .1))
     ∙ ap (λ (l : List ℕ). putAt l from (r k)) (z .loop .inv .2)
-    ∙ one-more r 8196 (length-curve (now (a .bundle))) (now (a .curves)) k (omega (arith, s .pre .1)) in
+    ∙ one-more r curveLength (length-curve (now (a .bundle))) (now (a .curves)) k (omega (arith, s .pre .1)) in
     (search needs, ap length told ∙ length-putAt (now (a .curves)) 0 (rows r (k + 1)), told)
 
 same-length : tie.Need-same-length Inv-loop μ-loop
 same-length c = c .before .loop .inv .1
 
 returns : tie.Need-returns Inv-loop μ-loop
-unfolding curvesOf
+unfolding buildCurvesOf
 returns c =
     let z = c .before in
     let s = z .before .before .before in
     let a = s .args in
-    let r = curveOf (now (a .bundle)) in
+    let r = buildCurveOf (now (a .bundle)) in
     let end : z .loop .curve ≡ 31 = omega arith in
-    z .loop .inv .2 ∙ ap (λ (k : ℕ). putAt (now (a .curves)) 0 (rows r k)) end ∙ all-put r 8196 (length-curve (now (a .bundle))) (now (a .curves)) 31 (s .pre .1)
+    z .loop .inv .2 ∙ ap (λ (k : ℕ). putAt (now (a .curves)) 0 (rows r k)) end ∙ all-put r curveLength (length-curve (now (a .bundle))) (now (a .curves)) 31 (s .pre .1)
 
 pub build-curves-spec : {M : Type 1} → statement M
 build-curves-spec =

@@ -6,8 +6,8 @@ use borrow.Author.Needs.{needs}
 use Rattle.curves.proofs.read_resting_output.Statement.{statement}
 use Rattle.curves.proofs.read_resting_output.Tie as tie
 
-of-usize-requires : tie.Need-of-usize-requires
-of-usize-requires c κs = search needs
+of-u16-requires : tie.Need-of-u16-requires
+of-u16-requires c κs = search needs
 
 filter-mode-quiescent-level-requires : tie.Need-filter-mode-quiescent-level-requires
 filter-mode-quiescent-level-requires c κs = search needs
@@ -19,7 +19,7 @@ returns : tie.Need-returns
 unfolding summerRestingOutputOf summerRestingPlacesOf
 returns c =
     let z = c .before .before .before in
-    simp (le-leb _ _ (z .if1 .taken), c .read-sample .ensures, c .before .filter-mode-quiescent-level .ensures, c .before .before .of-usize .ensures)
+    simp (le-leb _ _ (z .if1 .taken), c .read-sample .ensures, c .before .filter-mode-quiescent-level .ensures, c .before .before .of-u16 .ensures)
 
 returns-2 : tie.Need-returns-2
 unfolding summerRestingOutputOf summerRestingPlacesOf judgePlacesOf readOf
@@ -29,7 +29,7 @@ pub read-resting-output-spec : {M : Type 1} → statement M
 read-resting-output-spec =
     tie.close
     (tie.spec
-    of-usize-requires
+    of-u16-requires
     filter-mode-quiescent-level-requires
     read-sample-requires
     returns

@@ -24,9 +24,6 @@ array-read-entry-at-2 c = search needs
 entry-at-requires-2 : tie.Need-entry-at-requires-2
 entry-at-requires-2 c κs = search needs
 
-interpolate-requires : tie.Need-interpolate-requires
-interpolate-requires c κs = search needs
-
 array-read-entry-at-3 : tie.Need-array-read-entry-at-3
 array-read-entry-at-3 c = search needs
 
@@ -39,6 +36,9 @@ array-read-entry-at-4 c = search needs
 entry-at-requires-4 : tie.Need-entry-at-requires-4
 entry-at-requires-4 c κs = search needs
 
+interpolate-requires : tie.Need-interpolate-requires
+interpolate-requires c κs = search needs
+
 interpolate-requires-2 : tie.Need-interpolate-requires-2
 interpolate-requires-2 c κs = search needs
 
@@ -48,9 +48,21 @@ interpolate-requires-3 c κs = search needs
 returns : tie.Need-returns
 unfolding sampleOf sampleAtOf samplePlacesOf cornersOf
 returns c =
-    let y = c .before .before .before .before in
-    let z = y .before .before .before in
-    simp (c .interpolate3 .ensures, c .before .interpolate2 .ensures, c .before .before .entry-at4 .ensures, c .before .before .before .entry-at3 .ensures, y .interpolate .ensures, y .before .entry-at2 .ensures, y .before .before .entry-at .ensures, z .sample-places .ensures, z .before .input-position .ensures, z .before .before .load-position .ensures)
+    let r = c .before .before .before in
+    let l = r .before .before in
+    let z = l .before .before in
+    simp (
+      c .interpolate3 .ensures,
+      c .before .interpolate2 .ensures,
+      c .before .before .interpolate .ensures,
+      r .entry-at4 .ensures,
+      r .before .entry-at3 .ensures,
+      l .entry-at2 .ensures,
+      l .before .entry-at .ensures,
+      z .sample-places .ensures,
+      z .before .input-position .ensures,
+      z .before .before .load-position .ensures,
+    )
 
 pub sample-spec : {M : Type 1} → statement M
 sample-spec =
@@ -63,11 +75,11 @@ sample-spec =
     entry-at-requires
     array-read-entry-at-2
     entry-at-requires-2
-    interpolate-requires
     array-read-entry-at-3
     entry-at-requires-3
     array-read-entry-at-4
     entry-at-requires-4
+    interpolate-requires
     interpolate-requires-2
     interpolate-requires-3
     returns)

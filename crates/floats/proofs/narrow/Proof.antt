@@ -1,9 +1,7 @@
 use mathlib.Core.Path.{sym, subst}
-use native.Mathlib.Nat.{mod-lt}
 use native.Mathlib.Omega.{arith}
 use lib.Dec.{T}
 use lib.Ieee.{div, ofBits}
-use borrow.Author.Needs.{needs}
 use Rattle.floats.specs.Floats.{narrowOf}
 use Rattle.floats.proofs.Laws.{equal-no-nan, unequal-nan}
 use Rattle.floats.proofs.Narrowing.{plus-narrow, minus-narrow, real-magnitude}

@@ -1,18 +1,10 @@
-use mathlib.Core.Path.{_≡_, sym, subst, ap, _∙_}
-use Prim.Native.Nat.{_+_, _/_, _<_}
+use mathlib.Core.Path.{sym, subst}
 use native.Mathlib.Omega.{arith}
 use lib.Dec.{T}
-use lib.Ieee.{neg}
 use borrow.Author.Needs.{needs}
-use Rattle.floats.proofs.Laws.{small-exact}
 use Rattle.floats.proofs.Rounding.{zero-rounds, large-rounds, half-few, half-rounds}
 use Rattle.floats.proofs.round.Statement.{statement}
 use Rattle.floats.proofs.round.Tie as tie
-use Rattle.floats.proofs.round.Reads as reads
-use Rattle.floats.proofs.round.Lts as lts
-use Rattle.floats.proofs.abs.Reads as abs-reads
-use Rattle.floats.proofs.as_usize.Reads as as-usize-reads
-use Rattle.floats.proofs.of_usize.Reads as of-usize-reads
 
 abs-requires : tie.Need-abs-requires
 abs-requires c κs = search needs
@@ -27,7 +19,8 @@ as-usize-requires c κs = search needs
 add-of-usize : tie.Need-add-of-usize
 add-of-usize c =
     let z = c .before .before .before in
-    record { fits = omega (arith, half-few (z .before .args .x) (subst T (sym (z .before .good .0 .1)) tt) (z .abs .ensures) (c .before .before .if1 .left) (c .before .if2 .taken) (c .as-usize .ensures)) }
+    let few = half-few (z .before .args .x) (subst T (sym (z .before .good .0 .1)) tt) (z .abs .ensures) (c .before .before .if1 .left) (c .before .if2 .taken) (c .as-usize .ensures) in
+    record { fits = omega arith }
 
 of-usize-requires : tie.Need-of-usize-requires
 of-usize-requires c κs = search needs

@@ -12,9 +12,6 @@ average-requires c κs = search needs
 judge-sample-curve-requires : tie.Need-judge-sample-curve-requires
 judge-sample-curve-requires c κs = search needs
 
-cast-judge-summer-resting-output : tie.Need-cast-judge-summer-resting-output
-cast-judge-summer-resting-output c = search needs
-
 judge-summer-resting-output-requires : tie.Need-judge-summer-resting-output-requires
 judge-summer-resting-output-requires c κs = search needs
 
@@ -34,7 +31,6 @@ judge-summer-spec =
     summer-inputs-requires
     average-requires
     judge-sample-curve-requires
-    cast-judge-summer-resting-output
     judge-summer-resting-output-requires
     first-requires
     returns)

@@ -5,9 +5,6 @@ use Rattle.sample.proofs.rest_of.Tie as tie
 summer-inputs-requires : tie.Need-summer-inputs-requires
 summer-inputs-requires c κs = search needs
 
-cast-read-resting-output : tie.Need-cast-read-resting-output
-cast-read-resting-output c = search needs
-
 read-resting-output-requires : tie.Need-read-resting-output-requires
 read-resting-output-requires c κs = search needs
 
@@ -17,4 +14,4 @@ returns c = simp (c .read-resting-output .ensures, c .before .summer-inputs .ens
 pub rest-of-spec : {M : Type 1} → statement M
 rest-of-spec =
     tie.close
-    (tie.spec summer-inputs-requires cast-read-resting-output read-resting-output-requires returns)
+    (tie.spec summer-inputs-requires read-resting-output-requires returns)

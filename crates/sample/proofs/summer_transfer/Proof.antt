@@ -12,9 +12,6 @@ average-requires c κs = search needs
 sample-curve-requires : tie.Need-sample-curve-requires
 sample-curve-requires c κs = search needs
 
-cast-summer-resting-output : tie.Need-cast-summer-resting-output
-cast-summer-resting-output c = search needs
-
 summer-resting-output-requires : tie.Need-summer-resting-output-requires
 summer-resting-output-requires c κs = search needs
 
@@ -31,6 +28,5 @@ summer-transfer-spec =
     summer-inputs-requires
     average-requires
     sample-curve-requires
-    cast-summer-resting-output
     summer-resting-output-requires
     returns)
