@@ -1,17 +1,10 @@
--- Text in a buffer: quoted text, a number in decimal, and a buffer with text from a place on.
+-- Text in a buffer: a number in decimal, and a buffer with text from a place on.
 use Prim.Native.Nat.{ℕ, zero, suc, _+_, _/_, _%_, min}
-use Prim.Native.Char.{code}
-use Prim.Native.String.{String, [] as empty, _∷_ as _then_}
 use mathlib.Core.Bool.{cond}
 use mathlib.Core.List.{List, [], _∷_, _++_}
 use lib.Dec.{ltb}
 use lib.ListN.{length, take, drop}
 use Rattle.io.specs.Digits.{glyph}
-
--- The codes of the characters, in ASCII a byte each.
-abbrev pub ascii : String → List ℕ
-ascii empty = []
-ascii (c then s) = code c ∷ ascii s
 
 -- The digits of a number of at most k digits, with none in front that is not needed.
 unfoldable pub decimalIn : ℕ → ℕ → List ℕ

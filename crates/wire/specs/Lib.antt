@@ -1,2 +1,3 @@
 pub mod Wire
 pub mod First
+pub mod Text
