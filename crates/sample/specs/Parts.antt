@@ -1,5 +1,5 @@
--- The sample on parts that a run keeps: the tables of the operating bins and the core's numbers apart, and the summer's rest worked out before.
--- Kept.antt of proofs/ shows that on the parts of a `ControlCache` and a topology's rest it is `filterSampleOf`.
+-- The sample on parts of the controls: the tables of the operating bins and the core's numbers apart, and the summer's rest worked out before.
+-- Parts.antt of proofs/ shows that on the parts of a `ControlCache` and a topology's rest it is `filterSampleOf`.
 use Prim.Native.Nat.{ℕ}
 use mathlib.Core.Bool.{false, cond, _&&_}
 use mathlib.Core.List.{List}
@@ -19,7 +19,7 @@ use Rattle.bundle.specs.Reading.{readOf}
 use Rattle.curves.specs.Sampling.{sampleCurveOf, sampleCurvePlacesOf, summerRestingOutputOf, summerRestingPlacesOf}
 use Rattle.controls.specs.declared.FilterControls.{FilterControls}
 use Rattle.controls.specs.declared.ControlCache.{ControlCache}
-use Rattle.kept.specs.declared.CoreControls.{CoreControls}
+use Rattle.refresh.specs.declared.CoreControls.{CoreControls}
 use Rattle.sample.specs.declared.CoreInput.{CoreInput}
 use Rattle.sample.specs.declared.CoreInput.the-variants.{Idle, Level, Refused as Unfed}
 use Rattle.sample.specs.declared.Sampled.{Sampled}
@@ -104,5 +104,5 @@ steppedOf t c mode s energy (Level x) =
     (movedOf (c .filter) s (x ⊗ K.FILTER-INPUT-GAIN)
     (trackedEnergyOf (s .«filter_source_energy») (fedEnergyOf (t .«filter_input_count») (t .«filter_input_reciprocal») energy)))
 
-abbrev pub sampleKeptOf : List ℕ → ℕ → MixingTopology → ControlCache → Read → ℕ → IntegratorState → Float → Float → Sampled
-sampleKeptOf curves slot t c rest mode s sum energy = steppedOf t c mode s energy (coreInputOf curves slot t rest s sum energy)
+abbrev pub sampleFromPartsOf : List ℕ → ℕ → MixingTopology → ControlCache → Read → ℕ → IntegratorState → Float → Float → Sampled
+sampleFromPartsOf curves slot t c rest mode s sum energy = steppedOf t c mode s energy (coreInputOf curves slot t rest s sum energy)

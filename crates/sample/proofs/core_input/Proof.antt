@@ -1,8 +1,8 @@
 use borrow.Author.Tests.{le-leb, lt-leb}
-use Rattle.sample.specs.Kept.{coreInputOf}
+use Rattle.sample.specs.Parts.{coreInputOf}
 use borrow.Author.Needs.{needs}
-use Rattle.sample.proofs.feed.Statement.{statement}
-use Rattle.sample.proofs.feed.Tie as tie
+use Rattle.sample.proofs.core_input.Statement.{statement}
+use Rattle.sample.proofs.core_input.Tie as tie
 
 is-finite-requires : tie.Need-is-finite-requires
 is-finite-requires c κs = search needs
@@ -38,8 +38,8 @@ returns-4 : tie.Need-returns-4
 unfolding coreInputOf
 returns-4 c = simp (← c .before .before .is-finite .ensures, ← c .before .is-finite2 .ensures, c .if1 .left)
 
-pub feed-spec : {M : Type 1} → statement M
-feed-spec =
+pub core-input-spec : {M : Type 1} → statement M
+core-input-spec =
     tie.close
     (tie.spec
     is-finite-requires

@@ -1,4 +1,4 @@
--- The sample on kept parts is the sample on the controls that they are parts of. Assumes nothing.
+-- The sample on parts is the sample on the controls that they are parts of. Assumes nothing.
 use Prim.Native.Nat.{ℕ}
 use mathlib.Core.Path.{_≡_, refl, _∙_}
 use mathlib.Core.Bool.{Bool, true, false, cond, _&&_}
@@ -15,12 +15,12 @@ use Rattle.integrator.specs.declared.Substeps.the-variants.{Settled, NotFinite}
 use Rattle.mixing.specs.declared.MixingTopology.{MixingTopology}
 use Rattle.bundle.specs.Reading.{readOf}
 use Rattle.controls.specs.declared.ControlCache.{ControlCache}
-use Rattle.kept.specs.declared.CoreControls.{CoreControls}
-use Rattle.kept.specs.Kept.{coreControlsOf}
+use Rattle.refresh.specs.declared.CoreControls.{CoreControls}
+use Rattle.refresh.specs.Refresh.{coreControlsOf}
 use Rattle.sample.specs.declared.CoreInput.{CoreInput}
 use Rattle.sample.specs.declared.CoreInput.the-variants.{Idle, Level, Refused as Unfed}
 use Rattle.sample.specs.Sample.{summerTransferOf, judgeSummerOf, isIdleOf, movedOf, atRestOf, advanceFilterCoreOf, mixedOf, selectFilterOutputOf, judgeSampleOf, takenOf, filterSampleOf}
-use Rattle.sample.specs.Kept.{cacheOf, restOf, aboveOf, coreInputOf, steppedOf, sampleKeptOf}
+use Rattle.sample.specs.Parts.{cacheOf, restOf, aboveOf, coreInputOf, steppedOf, sampleFromPartsOf}
 
 -- The selection reads no table.
 pub taken-parts : (gains input-drives feedback-drives : List Float) (core : CoreControls) (gain : Float) (count mode : ℕ) (moved : Substeps)
@@ -68,5 +68,5 @@ module _ (bundle curves : List ℕ) (slot : ℕ) (t : MixingTopology) (c : Contr
       go true true false true e g h k = simp (e, g, h, above-read, k)
       go true true false false e g h k = simp (e, g, h, above-read, k)
 
-  pub kept-is-sample : sampleKeptOf curves slot t parts (restOf bundle t) mode s sum energy ≡ filterSampleOf bundle curves slot t c mode s sum energy
-  kept-is-sample = same-stepped (coreInputOf curves slot t (restOf bundle t) s sum energy) ∙ plain
+  pub parts-are-sample : sampleFromPartsOf curves slot t parts (restOf bundle t) mode s sum energy ≡ filterSampleOf bundle curves slot t c mode s sum energy
+  parts-are-sample = same-stepped (coreInputOf curves slot t (restOf bundle t) s sum energy) ∙ plain

@@ -1,12 +1,12 @@
 use denote.Ref.{now}
-use Rattle.sample.specs.Kept.{steppedOf}
-use Rattle.sample.proofs.Kept.{taken-parts}
+use Rattle.sample.specs.Parts.{steppedOf}
+use Rattle.sample.proofs.Parts.{taken-parts}
 use borrow.Author.Needs.{needs}
-use Rattle.sample.proofs.sample_kept.Statement.{statement}
-use Rattle.sample.proofs.sample_kept.Tie as tie
+use Rattle.sample.proofs.sample_from_parts.Statement.{statement}
+use Rattle.sample.proofs.sample_from_parts.Tie as tie
 
-feed-requires : tie.Need-feed-requires
-feed-requires c κs = search needs
+core-input-requires : tie.Need-core-input-requires
+core-input-requires c κs = search needs
 
 enum-told : tie.Need-enum-told
 enum-told c = search needs
@@ -46,11 +46,11 @@ unfolding steppedOf
 returns c =
     let f = c .before .before .before .before in
     let a = f .before .before .args in
-    simp (← f .feed .ensures, c .before .before .enum-told .given .1, c .taken .ensures, c .before .at-rest .ensures, taken-parts (now (a .gains)) (now (a .input-drives)) (now (a .feedback-drives)) (a .core) (a .mode-output-gain))
+    simp (← f .core-input .ensures, c .before .before .enum-told .given .1, c .taken .ensures, c .before .at-rest .ensures, taken-parts (now (a .gains)) (now (a .input-drives)) (now (a .feedback-drives)) (a .core) (a .mode-output-gain))
 
 returns-2 : tie.Need-returns-2
 unfolding steppedOf
-returns-2 c = rw (← c .before .before .before .feed .ensures, c .before .fed .given .1)
+returns-2 c = rw (← c .before .before .before .core-input .ensures, c .before .fed .given .1)
 
 returns-3 : tie.Need-returns-3
 unfolding steppedOf
@@ -59,13 +59,13 @@ returns-3 c =
     let e = t .before in
     let f = e .before .before .before .before in
     let a = f .before .before .args in
-    simp (← f .feed .ensures, e .before .before .fed2 .given .1, c .taken2 .ensures, c .before .moved .ensures, t .tracked-energy .ensures, e .fed-energy .ensures, taken-parts (now (a .gains)) (now (a .input-drives)) (now (a .feedback-drives)) (a .core) (a .mode-output-gain))
+    simp (← f .core-input .ensures, e .before .before .fed2 .given .1, c .taken2 .ensures, c .before .moved .ensures, t .tracked-energy .ensures, e .fed-energy .ensures, taken-parts (now (a .gains)) (now (a .input-drives)) (now (a .feedback-drives)) (a .core) (a .mode-output-gain))
 
-pub sample-kept-spec : {M : Type 1} → statement M
-sample-kept-spec =
+pub sample-from-parts-spec : {M : Type 1} → statement M
+sample-from-parts-spec =
     tie.close
     (tie.spec
-    feed-requires
+    core-input-requires
     enum-told
     at-rest-requires
     taken-requires
