@@ -1,8 +1,8 @@
 use borrow.Author.Needs.{needs}
 use Rattle.bounce_step.specs.Lines.{scriptLineOf}
 use Rattle.bounce_step.proofs.Laws.{grown-then}
-use Rattle.bounce_step.proofs.lines.line.Statement.{statement}
-use Rattle.bounce_step.proofs.lines.line.Tie as tie
+use Rattle.bounce_step.proofs.lines.script_line.Statement.{statement}
+use Rattle.bounce_step.proofs.lines.script_line.Tie as tie
 
 push-requires : tie.Need-push-requires
 push-requires c κs = search needs
@@ -31,13 +31,14 @@ same-length c = search needs
 returns : tie.Need-returns
 unfolding scriptLineOf
 returns c =
-    let first = c .before .before .before .before .before .before .before .before .before .before .before .before .before .before .before .before .before .before .push .ensures in
+    let fork = c .before .before .before .before .before .before .before .before .before .before .before .before .before .before in
+    let first = fork .before .before .before .before .push .ensures in
     let second = c .before .before .before .before .before .before .before .before .before .before .before .push2 .ensures in
     let third = c .before .before .before .before .before .before .before .push-counts .ensures in
     let fourth = c .before .before .push3 .ensures in
-    let two = grown-then _ _ _ _ _ _ _ (first .1) (second .1) (search needs) in
-    let three = grown-then _ _ _ _ _ _ _ two (third .1) (search needs) in
-    (fourth .0, rw (← c .before .before .before .before .before .before .before .before .before .before .before .before .before .before .before .is-done .ensures, c .before .before .before .before .before .before .before .before .before .before .before .before .before .before .if1 .taken) (grown-then _ _ _ _ _ _ _ three (fourth .1) (search needs)))
+    let two = grown-then _ _ _ _ _ _ _ _ (search needs) (first .1) (second .1) in
+    let three = grown-then _ _ _ _ _ _ _ _ (search needs) two (third .1) in
+    (fourth .0, rw (← fork .before .is-done .ensures, fork .if1 .taken) (grown-then _ _ _ _ _ _ _ _ (search needs) three (fourth .1)))
 
 slice-aggregate-push-3 : tie.Need-slice-aggregate-push-3
 slice-aggregate-push-3 c = search needs
@@ -69,20 +70,22 @@ same-length-2 c = search needs
 returns-2 : tie.Need-returns-2
 unfolding scriptLineOf
 returns-2 c =
-    let first = c .before .before .before .before .before .before .before .before .before .before .before .before .before .before .before .before .before .before .before .before .before .before .before .before .before .before .before .push .ensures in
-    let second = c .before .before .before .before .before .before .before .before .before .before .before .before .before .before .before .before .before .before .before .before .push4 .ensures in
-    let third = c .before .before .before .before .before .before .before .before .before .before .before .before .before .before .before .before .push-counts2 .ensures in
+    let counted = c .before .before .before .before .before .before .before .before .before .before .before .before .before .before .before .before in
+    let fork = counted .before .before .before .before .before .before .before in
+    let first = fork .before .before .before .before .push .ensures in
+    let second = counted .before .before .before .before .push4 .ensures in
+    let third = counted .push-counts2 .ensures in
     let fourth = c .before .before .before .before .before .before .before .before .before .before .before .push5 .ensures in
     let fifth = c .before .before .before .before .before .before .before .push-refusal .ensures in
     let sixth = c .before .before .push6 .ensures in
-    let two = grown-then _ _ _ _ _ _ _ (first .1) (second .1) (search needs) in
-    let three = grown-then _ _ _ _ _ _ _ two (third .1) (search needs) in
-    let four = grown-then _ _ _ _ _ _ _ three (fourth .1) (search needs) in
-    let five = grown-then _ _ _ _ _ _ _ four (fifth .1) (search needs) in
-    (sixth .0, rw (← c .before .before .before .before .before .before .before .before .before .before .before .before .before .before .before .before .before .before .before .before .before .before .before .before .is-done .ensures, c .before .before .before .before .before .before .before .before .before .before .before .before .before .before .before .before .before .before .before .before .before .before .before .if1 .left) (grown-then _ _ _ _ _ _ _ five (sixth .1) (search needs)))
+    let two = grown-then _ _ _ _ _ _ _ _ (search needs) (first .1) (second .1) in
+    let three = grown-then _ _ _ _ _ _ _ _ (search needs) two (third .1) in
+    let four = grown-then _ _ _ _ _ _ _ _ (search needs) three (fourth .1) in
+    let five = grown-then _ _ _ _ _ _ _ _ (search needs) four (fifth .1) in
+    (sixth .0, rw (← fork .before .is-done .ensures, fork .if1 .left) (grown-then _ _ _ _ _ _ _ _ (search needs) five (sixth .1)))
 
-pub line-spec : {M : Type 1} → statement M
-line-spec =
+pub script-line-spec : {M : Type 1} → statement M
+script-line-spec =
     tie.close
     (tie.spec
     push-requires
