@@ -21,13 +21,13 @@ part-decode-start c = search needs
 part-decode-end : tie.Need-part-decode-end
 part-decode-end c = search needs
 
-decode-requires : tie.Need-decode-requires
-decode-requires c κs = search needs
+decode-event-requires : tie.Need-decode-event-requires
+decode-event-requires c κs = search needs
 
 returns : tie.Need-returns
 returns c =
     let z = c .before .before .before .before .before in
-    c .decode .ensures ∙ event-part (now (z .args .script)) (z .args .place)
+    c .decode-event .ensures ∙ event-part (now (z .args .script)) (z .args .place)
 
 returns-2 : tie.Need-returns-2
 returns-2 c = let z = c .before .before .before in event-past (now (z .args .script)) (z .args .place) (omega arith)
@@ -44,7 +44,7 @@ event-at-spec =
     sub-decode
     part-decode-start
     part-decode-end
-    decode-requires
+    decode-event-requires
     returns
     returns-2
     returns-3)
