@@ -1,4 +1,5 @@
-/* The SID filter: bytes in, bytes out. All numbers in the bytes are little-endian; an f32 is its bits.
+/* The SID filter: bytes in, bytes out. All numbers in the bytes are little-endian; an f32 is its bits. docs/FORMATS.md has every buffer byte
+ * by byte.
  *
  * A buffer is a pointer and its length in bytes. Building writes `curves`; a run writes `state` and `output` and only reads the others. No
  * written buffer may overlap another one, and while a call runs nothing else may write what is lent to it.
@@ -13,7 +14,7 @@
 extern "C" {
 #endif
 
-/* number: 0 where all went, else the cause of the refusal.
+/* number: 0 on success, else the cause of the refusal.
  * events, samples: what a run had done; 0 for the other calls.
  * buffer, place: 0 where the refusal names none. */
 typedef struct {

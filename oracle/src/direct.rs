@@ -1,4 +1,4 @@
-//! The direct calls of the filter's parts: values beside the Rust's, refusals beside an independent reading of document 01's table.
+//! The direct calls of the filter's parts: values beside the Rust's, refusals beside an independent reading of the table of refusals (docs/FORMATS.md).
 
 use crate::filter::Filter;
 use crate::integrator::IntegratorState;
@@ -183,7 +183,7 @@ pub fn lent(t: &MixingTopology) -> proved::Topology {
     }
 }
 
-// ---- document 01's table
+// ---- the table of refusals
 
 /// Number, buffer and place.
 pub type Told = (u32, u32, u32);

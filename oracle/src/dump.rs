@@ -1,4 +1,4 @@
-//! Writes into the working folder the bundle of document 01 and the files of the Rust's answers that the program `vectors` replays.
+//! Writes into the working folder the bundle (docs/FORMATS.md) and the files of the Rust's answers that the program `vectors` replays.
 //! README.md says what is in each file.
 
 #![allow(dead_code)]
@@ -215,7 +215,7 @@ fn inputs(random: &mut Random, others: usize) -> Vec<f32> {
 
 // ---- The bundle
 
-/// Document 01's bundle as words: the header, then the six sections.
+/// The bundle as words: the header, then the six sections.
 fn bundle(coefficients: &[FilterCoefficients; 2048], surface: &AnalogueTransferSurface) -> Vec<u32> {
     let sections: [Vec<f32>; 6] = [
         coefficients.iter().flat_map(|code| code.integrator_gain).flatten().collect(),
@@ -384,7 +384,7 @@ fn constants(coefficients: &FilterCoefficients) -> Vec<[u32; 5]> {
 
 // ---- Answers
 
-/// Document 01's table: number, buffer and place of two answers, then those of the first that refuses, with what its row names.
+/// The table of refusals: number, buffer and place of two answers, then those of the first that refuses, with what its row names.
 fn answers() -> Vec<[u32; 9]> {
     let mut random = Random::of("answers");
     let mut pairs = vec![];
@@ -527,7 +527,7 @@ fn narrow() -> Vec<[u32; 4]> {
         .collect()
 }
 
-/// Document 01's usable entry: finite and at most 1,024 in magnitude.
+/// A usable entry: finite and at most 1,024 in magnitude.
 fn usable(bits: u32) -> bool {
     let entry = f32::from_bits(bits);
     entry.is_finite() && entry.abs() <= 1024.0
@@ -874,7 +874,7 @@ fn sample(surface: &AnalogueTransferSurface) -> Vec<[u32; 3]> {
     cases.into_iter().map(|(load, input)| [word(load), word(input), word(surface.sample(load, input))]).collect()
 }
 
-/// The 31 curves in document 01's order: summer, mixer, volume.
+/// The 31 curves in their order: summer, mixer, volume.
 fn curves(filter: &Filter) -> Vec<&[f32; 2049]> {
     let curves = filter.curves();
     curves.summer.iter().chain(&curves.mixer).chain(&curves.volume).map(Box::as_ref).collect()

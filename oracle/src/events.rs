@@ -1,6 +1,6 @@
 //! The core, event after event, each on the core that the last one handed back. Beside it stands the Rust's filter, put in the same state and fed the
 //! same events by its own methods; after each event the answer, the outputs, the state and every kept field are compared by their bits. What
-//! is refused is checked against an independent reading of document 01's table, and leaves the Rust's filter as it was.
+//! is refused is checked against an independent reading of the table of refusals (docs/FORMATS.md), and leaves the Rust's filter as it was.
 
 use crate::constants::*;
 use crate::control::{ControlCache, FilterRegisters};
@@ -254,7 +254,7 @@ fn copied<T>(x: &T) -> T {
     unsafe { std::ptr::read(x) }
 }
 
-/// What document 01's core has.
+/// What a core has.
 struct Parts(FilterRegisters, IntegratorState, MixingTopology, ControlCache);
 
 fn parts(filter: &mut Filter) -> Parts {
@@ -789,7 +789,7 @@ fn handed_in(lent: &mut Lent) -> Reached {
     reached
 }
 
-/// Document 01's order of the causes that an event on a core may have.
+/// The order of the causes that an event on a core may have (docs/FORMATS.md).
 const ORDER: [u32; 8] = [1, 2, 4, 10, 5, 9, 3, 6];
 
 /// Every set of causes, on every kind of event: the first cause that the kind looks for is answered. A write has no look at curves, sum, energy and

@@ -3,7 +3,7 @@
 use crate::control::{ControlCache, FilterRegisters};
 use crate::filter::Filter;
 
-/// Document 01's block of a state, the floats given by their bits.
+/// The block of a state, the floats given by their bits.
 pub fn block(registers: &FilterRegisters, floats: [u32; 3]) -> [u8; 24] {
     let mut bytes = [0; 24];
     bytes[0..2].copy_from_slice(&registers.cutoff.to_le_bytes());

@@ -1,4 +1,4 @@
-//! Document 01's plain machine and its table of refusals, from the document and the Rust's operations: it holds a state block and nothing
+//! The plain machine and the table of refusals of docs/FORMATS.md, with the Rust's operations: it holds a state block and nothing
 //! more, reads what the Rust has in tables from the bytes that are lent, and works topology and controls out afresh in every event.
 
 use crate::constants::*;

@@ -87,7 +87,7 @@ mod filter {
             &mut self.topology
         }
 
-        /// What document 01's core has.
+        /// What a core has.
         pub(super) fn parts(&mut self) -> (&mut FilterRegisters, &mut IntegratorState, &mut MixingTopology, &mut ControlCache) {
             (&mut self.registers, &mut self.state, &mut self.topology, &mut self.control)
         }

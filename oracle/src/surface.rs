@@ -133,7 +133,7 @@ fn bytes(entries: &[f32]) -> impl Iterator<Item = u8> + '_ {
     entries.iter().flat_map(|entry| entry.to_le_bytes())
 }
 
-/// The Rust's curves in document 01's order.
+/// The Rust's curves in the order of the curve buffer.
 pub fn curves_of(filter: &Filter) -> Vec<u8> {
     let curves = filter.curves();
     curves.summer.iter().chain(&curves.mixer).chain(&curves.volume).flat_map(|curve| bytes(&curve[..])).collect()

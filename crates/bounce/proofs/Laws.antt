@@ -11,10 +11,11 @@ use Rattle.control.specs.declared.State.{State}
 use Rattle.control.specs.Block.{blockOf, encodeOf}
 use Rattle.control.proofs.Block.{block-long}
 
-pub started : (s : State) (d block : List ℕ) → 24 ≤ length d → block ≡ encodeOf s (take 24 d) → Counts 24 (block ++ drop 24 d) × (take 24 (block ++ drop 24 d) ≡ blockOf s)
+pub started : (s : State) (d block : List ℕ) → 24 ≤ length d → block ≡ encodeOf s (take 24 d)
+    → Counts 24 (block ++ drop 24 d) × (block ++ drop 24 d ≡ blockOf s ++ drop 24 d)
 unfolding encodeOf
 started s d block h e =
     let is : block ≡ blockOf s = e ∙ rw (eq-eqb (length (take 24 d)) 24 (length-take-le 24 d h)) in
     let long : length block ≡ 24 = ap length is ∙ block-long s in
     let t = take-at block (drop 24 d) 24 long in
-    ((omega (arith, length-append block (drop 24 d)), sym (ap length t ∙ long)), t ∙ is)
+    ((omega (arith, length-append block (drop 24 d)), sym (ap length t ∙ long)), rw is)

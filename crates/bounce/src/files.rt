@@ -1,7 +1,8 @@
 // Files, whole.
 ghost use mathlib.Core.Path.{_≡_};
 ghost use Prim.Native.Nat.{_≤_};
-ghost use lib.ListN.{length, take};
+ghost use mathlib.Core.List.{_++_};
+ghost use lib.ListN.{length, drop};
 ghost use Rattle.io.specs.Counts.{Counts};
 ghost use Rattle.control.specs.Registers.{startingState};
 ghost use Rattle.control.specs.Block.{blockOf};
@@ -43,7 +44,7 @@ fn is_whole(fd: i32, size: usize, room: usize) -> bool {
 fn start(block: &mut [u8]) -> usize
     requires { ⌜ 24 ≤ length (now block) ⌝ }
     ensures { λ r. ⌜ Counts r (now (block .exit)) ⌝ }
-    ensures { λ r. ⌜ take r (now (block .exit)) ≡ blockOf startingState ⌝ }
+    ensures { λ _. ⌜ now (block .exit) ≡ blockOf startingState ++ drop 24 (now (block .entry)) ⌝ }
 {
     State::new().encode(&mut block[..24]);
     24

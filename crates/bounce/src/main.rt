@@ -64,7 +64,7 @@ fn open(name: &[u8], bundle: &[u8]) -> u32 {
 // Prints the line of a refusal before the first script, and answers its number.
 fn refuse(name: &[u8], answer: Answer) -> u32 {
     let mut line = line_room();
-    let end = bounce_step::line(&mut line, name, answer, 0, 0);
+    let end = bounce_step::script_line(&mut line, name, answer, 0, 0);
     io::write_all(STDOUT_FILENO, &line[..end]);
     answers::report(answer).number
 }

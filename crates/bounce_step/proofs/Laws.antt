@@ -1,14 +1,14 @@
 -- Text that grows in a buffer, and a number's digits.
-use Prim.Native.Nat.{ℕ, zero, suc, _+_, _-_, _*_, _/_, _%_, _^_, _≤_, _<_}
-use mathlib.Core.Path.{_≡_, ap, sym, _∙_}
+use Prim.Native.Nat.{ℕ, zero, suc, _+_, _-_, _*_, _/_, _%_, _^_, _≤_, _<_, min}
+use mathlib.Core.Path.{_≡_, refl, ap, sym, _∙_}
 use mathlib.Core.Logic.{⊎-elim}
 use mathlib.Core.Bool.{Bool, true, false, cond}
-use mathlib.Core.List.{List, _++_, append-assoc}
+use mathlib.Core.List.{List, _++_, append-assoc, append-nil}
 use native.Mathlib.Omega.{arith}
 use native.Mathlib.Nat.{pow-suc, one-le-pow, pow-le-pow-right}
 use lib.Dec.{lit<}
-use lib.ListN.{length, take, drop, length-append, length-drop}
-use lib.Seq.{length-take-le, take-all, take-append-le, take-append-add, take-take, paste, take-paste}
+use lib.ListN.{length, take, drop, length-append, length-drop, drop-of-length-le}
+use lib.Seq.{length-take-le, take-all, take-length, take-append-seam, take-append-le, take-append-add, drop-append-add, drop-drop, paste}
 use borrow.Author.Tests.{lt-ltb, le-ltb}
 use Rattle.io.specs.Counts.{Counts}
 use Rattle.io.specs.Digits.{digits, Fewest}
@@ -16,41 +16,101 @@ use Rattle.wire.proofs.Laws.{le-or-lt}
 use Rattle.answers.specs.Answers.{isDoneOf}
 use Rattle.control.specs.Block.{fieldsOf}
 use Rattle.script.specs.Script.{eventsOf}
-use Rattle.run.specs.Run.{playedOf, sampleBytes, judgeRunOf, leftOf, runOf}
+use Rattle.run.specs.Run.{Ran, playedOf, sampleBytes, judgeRunOf, Run, leftOf, runOf}
 use Rattle.run.specs.declared.Ended.{Ended}
 use Rattle.run.specs.Rows.{endedOf}
 use Rattle.run.proofs.Bytes.{length-outputs}
 use Rattle.run.proofs.Whole.{run-most}
-use Rattle.bounce_step.specs.Text.{decimalIn, decimalOf, grown}
+use Rattle.bounce_step.specs.Text.{decimalIn, decimalOf, grown, grownEnd}
 
 -- ---- text in a buffer
 
--- i bytes of s, pasted at a place of d: all that there is room for, or all that there are
-module _ (d s : List ℕ) (at i : ℕ) (h : i ≤ length s) (g : at + i ≤ length d) where
-  pub pasted-full : at + i ≡ length d → take (at + i) (paste d at s i) ≡ grown d at s
-  unfolding grown
-  pasted-full e =
-      let k : length (take at d) + i ≡ length d = omega (arith, length-take-le at d (omega arith)) in
-      take-paste d at s i (omega arith) h ∙ sym (rw k at (take-append-add (take at d) s i))
+-- Where the text ends and what the buffer holds, after text was put at a place of d.
+abbrev pub Grew : List ℕ → ℕ → List ℕ → List ℕ → ℕ → Type 0
+Grew d at s e r = (r ≡ grownEnd d at s) × (e ≡ grown d at s)
 
-  pub pasted-whole : i ≡ length s → take (at + i) (paste d at s i) ≡ grown d at s
+module _ (d s : List ℕ) (at : ℕ) where
+  -- text that fits, and text that passes the end
+  grown-fits : at + length s ≤ length d → grown d at s ≡ take at d ++ s ++ drop (at + length s) d
   unfolding grown
-  pasted-whole e =
-      take-paste d at s i (omega arith) h
-      ∙ rw (take-all i s (omega arith)) (sym (take-all (length d) (take at d ++ s) (omega (arith, length-append (take at d) s, length-take-le at d (omega arith)))))
+  grown-fits h =
+      take-all (length d) (take at d ++ s ++ drop (at + length s) d)
+      (simp (length-append, length-drop, length-take-le at d (omega arith)) (omega arith))
 
-cut-cut : (n : ℕ) (a b : List ℕ) → take n (take n a ++ b) ≡ take n (a ++ b)
-cut-cut n a b =
-    ⊎-elim
-    (λ (h : length a ≤ n). rw (take-all n a h))
-    (λ (h : n < length a). rw (take-append-le n (take n a) b (omega (arith, length-take-le n a (omega arith))), take-append-le n a b (omega arith), take-take n n a (omega arith)))
-    (le-or-lt (length a) n)
+  grown-cut : at ≤ length d → length d ≤ at + length s → grown d at s ≡ take (length d) (take at d ++ s)
+  unfolding grown
+  grown-cut h g =
+      take-append-le (length d) (take at d ++ s) (drop (at + length s) d) (simp (length-append, length-take-le at d h) g)
+
+  -- i bytes of s, pasted at a place of d: all that there is room for, or all that there are
+  module _ (i : ℕ) (h : i ≤ length s) (g : at + i ≤ length d) where
+    pub pasted-full : at + i ≡ length d → Grew d at s (paste d at s i) (at + i)
+    unfolding grownEnd
+    pasted-full e =
+        let k : length (take at d) + i ≡ length d = omega (arith, length-take-le at d (omega arith)) in (
+          omega arith,
+          rw (drop-of-length-le d {i = at + i} (omega arith), append-nil)
+              (sym (grown-cut (omega arith) (omega arith) ∙ rw k at (take-append-add (take at d) s i))),
+        )
+
+    pub pasted-whole : i ≡ length s → Grew d at s (paste d at s i) (at + i)
+    unfolding grownEnd
+    pasted-whole e = (omega arith, rw (take-all i s (omega arith), e) (sym (grown-fits (omega arith))))
+
+grown-is : (d s : List ℕ) (at : ℕ) → grown d at s ≡ take (length d) (take at d ++ s ++ drop (at + length s) d)
+unfolding grown
+grown-is d s at = refl
+
+-- text after a head that is there
+grown-after : (head tail s : List ℕ) → grown (head ++ tail) (length head) s ≡ take (length (head ++ tail)) (head ++ s ++ drop (length s) tail)
+unfolding grown
+grown-after head tail s = rw (take-append-seam head tail, drop-append-add head tail (length s))
+
+-- text at a buffer's end changes nothing
+grown-at-end : (d s : List ℕ) → grown d (length d) s ≡ d
+grown-at-end d s = grown-cut d s (length d) (omega arith) (omega arith) ∙ rw (take-length, take-append-seam)
 
 -- text that grew, and grew again
-pub grown-then : (d e : List ℕ) (at r : ℕ) (a b t : List ℕ) → take r e ≡ grown d at a → t ≡ grown e r b → length e ≡ length d → t ≡ grown d at (a ++ b)
-unfolding grown
-grown-then d e at r a b t h p l =
-    p ∙ rw (h, l) (cut-cut (length d) (take at d ++ a) b ∙ ap (take (length d)) (append-assoc (take at d) a b))
+module _ (d a b : List ℕ) (at : ℕ) (h : at ≤ length d) where
+  length-grown : length (grown d at a) ≡ length d
+  unfolding grown
+  length-grown = length-take-le _ _ (simp (length-append, length-drop, length-take-le at d h) (omega arith))
+
+  end-then : grownEnd (grown d at a) (grownEnd d at a) b ≡ grownEnd d at (a ++ b)
+  unfolding grownEnd
+  end-then = rw (length-grown, length-append a b) (omega arith)
+
+  -- where the first text fits
+  fits-then : at + length a ≤ length d → grown (grown d at a) (at + length a) b ≡ grown d at (a ++ b)
+  fits-then f =
+      let head : List ℕ = take at d ++ a in
+      let tail : List ℕ = drop (at + length a) d in
+      let long : length head ≡ at + length a = omega (arith, length-append (take at d) a, length-take-le at d h) in
+      let whole : length (head ++ tail) ≡ length d = rw (grown-fits d a at f) at length-grown in
+      let place : at + length (a ++ b) ≡ at + length a + length b = omega (arith, length-append a b) in
+      rw (grown-fits d a at f)
+      (rw long at (grown-after head tail b)
+      ∙ rw (whole, drop-drop (length b) (at + length a) d, append-assoc (take at d) a b, ← place) (sym (grown-is d (a ++ b) at)))
+
+  -- where it does not
+  cut-then : length d ≤ at + length a → grown (grown d at a) (length d) b ≡ grown d at (a ++ b)
+  cut-then g =
+      rw (← length-grown) (grown-at-end (grown d at a) b)
+      ∙ grown-cut d a at h g
+      ∙ sym
+      (grown-cut d (a ++ b) at h (omega (arith, length-append a b))
+      ∙ rw (← append-assoc (take at d) a b) (take-append-le (length d) (take at d ++ a) b (omega (arith, length-append (take at d) a, length-take-le at d h))))
+
+  put-then : grown (grown d at a) (grownEnd d at a) b ≡ grown d at (a ++ b)
+  unfolding grownEnd
+  put-then =
+      ⊎-elim
+      (λ (f : at + length a ≤ length d). let e : min (at + length a) (length d) ≡ at + length a = omega arith in rw e (fits-then f))
+      (λ (g : length d < at + length a). let e : min (at + length a) (length d) ≡ length d = omega arith in rw e (cut-then (omega arith)))
+      (le-or-lt (at + length a) (length d))
+
+pub grown-then : (d e t : List ℕ) (at r q : ℕ) (a b : List ℕ) → at ≤ length d → Grew d at a e r → Grew e r b t q → Grew d at (a ++ b) t q
+grown-then d e t at r q a b h x y = (y .0 ∙ rw (x .0, x .1) (end-then d a b at h), y .1 ∙ rw (x .0, x .1) (put-then d a b at h))
 
 -- ---- a number's digits
 
@@ -92,16 +152,20 @@ decimal-is n (suc k) l f =
 
 -- The bytes of the samples that a run wrote lie in its output, whose length it keeps.
 module _ (bundle curves block script output : List ℕ) where
+  abbrev ran : Ran
+  ran = playedOf bundle curves (fieldsOf block) (eventsOf script)
+
+  abbrev refused : Run
+  refused = record { answer = judgeRunOf bundle curves block script (length output); events = 0; samples = 0; state = block; output = output }
+
   samples-in : length (runOf bundle curves block script output .output) ≡ length output → 16 * runOf bundle curves block script output .samples ≤ length output
   unfolding runOf
   samples-in = go (isDoneOf (judgeRunOf bundle curves block script (length output)))
     where
-      go : (d : Bool)
-          → length (cond d (leftOf (playedOf bundle curves (fieldsOf block) (eventsOf script)) output) (record { answer = judgeRunOf bundle curves block script (length output); events = 0; samples = 0; state = block; output = output }) .output) ≡ length output
-          → 16 * cond d (leftOf (playedOf bundle curves (fieldsOf block) (eventsOf script)) output) (record { answer = judgeRunOf bundle curves block script (length output); events = 0; samples = 0; state = block; output = output }) .samples ≤ length output
+      go : (d : Bool) → length (cond d (leftOf ran output) refused .output) ≡ length output → 16 * cond d (leftOf ran output) refused .samples ≤ length output
       go true e =
-          let ran = playedOf bundle curves (fieldsOf block) (eventsOf script) in
-          omega (arith, length-append (sampleBytes (ran .samples)) (drop (16 * length (ran .samples)) output), length-outputs (ran .samples), length-drop (16 * length (ran .samples)) output)
+          let n = 16 * length (ran .samples) in
+          omega (arith, length-append (sampleBytes (ran .samples)) (drop n output), length-outputs (ran .samples), length-drop n output)
       go false e = omega arith
 
   -- the same of what the run answers

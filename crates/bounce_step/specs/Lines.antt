@@ -6,7 +6,8 @@ use Rattle.answers.specs.declared.Buffer.the-variants.{Bundle, Curves}
 use Rattle.answers.specs.declared.Answer.{Answer}
 use Rattle.answers.specs.declared.Answer.the-variants.{Done, BundleLength, Header, Entry, CurvesLength, InputNotFinite, Domain, Script, OutputLength, MixerInputs, Argument}
 use Rattle.answers.specs.Answers.{numberOf, isDoneOf}
-use Rattle.bounce_step.specs.Text.{ascii, decimalOf}
+use Rattle.wire.specs.Text.{ascii}
+use Rattle.bounce_step.specs.Text.{decimalOf}
 
 -- Words, and the place of which they speak.
 unfoldable pub placedOf : List ℕ → ℕ → List ℕ

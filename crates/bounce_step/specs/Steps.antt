@@ -1,26 +1,30 @@
--- What a script's step gives: document 01's number for its answer, the state that is left, the samples' bytes, and the line.
+-- What a script's step gives: document 01's number for its answer, how many bytes the samples and the line have, and the buffers that were lent to be written.
 use Prim.Native.Nat.{ℕ, _*_}
 use mathlib.Core.List.{List}
-use lib.ListN.{take}
 use Rattle.answers.specs.Answers.{numberOf}
 use Rattle.run.specs.Run.{Run, runOf}
+use Rattle.bounce_step.specs.declared.Stepped.{Stepped}
+use Rattle.bounce_step.specs.Text.{grown, grownEnd}
 use Rattle.bounce_step.specs.Lines.{scriptLineOf}
 
 pub record Step : Type 0 where
-  pub number : ℕ
+  pub stepped : Stepped
   pub state : List ℕ
-  pub samples : List ℕ
+  pub output : List ℕ
   pub line : List ℕ
 
-abbrev pub toldOf : List ℕ → Run → Step
-toldOf name r =
+abbrev pub ranLineOf : List ℕ → Run → List ℕ
+ranLineOf name r = scriptLineOf name (r .answer) (r .events) (r .samples)
+
+abbrev pub afterRunOf : List ℕ → List ℕ → Run → Step
+afterRunOf name line r =
     record {
-      number = numberOf (r .answer);
+      stepped = record { number = numberOf (r .answer); samples = 16 * r .samples; line = grownEnd line 0 (ranLineOf name r) };
       state = r .state;
-      samples = take (16 * r .samples) (r .output);
-      line = scriptLineOf name (r .answer) (r .events) (r .samples);
+      output = r .output;
+      line = grown line 0 (ranLineOf name r);
     }
 
--- The script of a name is run from the state that the last one left, with room for its samples.
-abbrev pub stepOf : List ℕ → List ℕ → List ℕ → List ℕ → List ℕ → List ℕ → Step
-stepOf bundle curves state name script room = toldOf name (runOf bundle curves state script room)
+-- The script of a name is run from the state that the last one left, and its line is written into a buffer.
+abbrev pub stepOf : List ℕ → List ℕ → List ℕ → List ℕ → List ℕ → List ℕ → List ℕ → Step
+stepOf bundle curves state name script output line = afterRunOf name line (runOf bundle curves state script output)

@@ -4,11 +4,11 @@ mod text;
 
 ghost use mathlib.Core.Path.{_≡_};
 ghost use mathlib.Core.List.{_++_};
-ghost use lib.ListN.{take};
 ghost use Rattle.io.specs.Counts.{Counts};
-ghost use Rattle.bounce_step.specs.Text.{ascii, grown};
+ghost use Rattle.wire.specs.Text.{ascii};
+ghost use Rattle.bounce_step.specs.Text.{grown, grownEnd};
 ghost use Rattle.bounce_step.specs.Steps.{stepOf};
-pub use lines::line;
+pub use lines::script_line;
 use text::push;
 
 // Document 01's number for the answer, and how many bytes the samples and the line have.
@@ -28,16 +28,14 @@ pub fn step(
     output: &mut [u8],
     line: &mut [u8],
 ) -> Stepped
-    ensures { λ r. ⌜ r .number ≡ stepOf (now (bundle .entry)) (now (curves .entry)) (now (state .entry)) (now (name .entry)) (now (script .entry)) (now (output .entry)) .number ⌝ }
-    ensures { λ _. ⌜ now (state .exit) ≡ stepOf (now (bundle .entry)) (now (curves .entry)) (now (state .entry)) (now (name .entry)) (now (script .entry)) (now (output .entry)) .state ⌝ }
-    ensures { λ r. ⌜ take (r .samples) (now (output .exit)) ≡ stepOf (now (bundle .entry)) (now (curves .entry)) (now (state .entry)) (now (name .entry)) (now (script .entry)) (now (output .entry)) .samples ⌝ }
-    ensures { λ r. ⌜ take (r .line) (now (line .exit)) ≡ grown (now (line .entry)) 0 (stepOf (now (bundle .entry)) (now (curves .entry)) (now (state .entry)) (now (name .entry)) (now (script .entry)) (now (output .entry)) .line) ⌝ }
+    ensures { λ r. ⌜ stepOf (now (bundle .entry)) (now (curves .entry)) (now (state .entry)) (now (name .entry)) (now (script .entry)) (now (output .entry)) (now (line .entry))
+        ≡ record { stepped = r; state = now (state .exit); output = now (output .exit); line = now (line .exit) } ⌝ }
     ensures { λ r. ⌜ Counts (r .samples) (now (output .exit)) ⌝ }
     ensures { λ r. ⌜ Counts (r .line) (now (line .exit)) ⌝ }
 {
     let ended = run::run(bundle, curves, state, script, output);
     let answer = ended.answer;
-    let end = lines::line(line, name, answer, ended.events, ended.samples);
+    let end = lines::script_line(line, name, answer, ended.events, ended.samples);
     let told = answers::report(answer);
     Stepped {
         number: told.number,
@@ -49,7 +47,8 @@ pub fn step(
 // The name of the file that is written beside another.
 pub fn beside(out: &mut [u8], path: &[u8]) -> usize
     ensures { λ r. ⌜ Counts r (now (out .exit)) ⌝ }
-    ensures { λ r. ⌜ take r (now (out .exit)) ≡ grown (now (out .entry)) 0 (now (path .entry) ++ ascii ".new") ⌝ }
+    ensures { λ r. ⌜ r ≡ grownEnd (now (out .entry)) 0 (now (path .entry) ++ ascii ".new") ⌝ }
+    ensures { λ _. ⌜ now (out .exit) ≡ grown (now (out .entry)) 0 (now (path .entry) ++ ascii ".new") ⌝ }
 {
     let n = push(out, 0, path);
     push(out, n, b".new")

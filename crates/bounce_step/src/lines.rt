@@ -1,9 +1,9 @@
 // What is said of an answer: its words, and the line of a script.
 ghost use mathlib.Core.Path.{_≡_};
 ghost use Prim.Native.Nat.{_≤_};
-ghost use lib.ListN.{length, take};
+ghost use lib.ListN.{length};
 ghost use Rattle.io.specs.Counts.{Counts};
-ghost use Rattle.bounce_step.specs.Text.{grown};
+ghost use Rattle.bounce_step.specs.Text.{grown, grownEnd};
 ghost use Rattle.bounce_step.specs.Lines.{placedOf, wordsOf, countsOf, refusalOf, scriptLineOf};
 use crate::text::push;
 use crate::text::push_number;
@@ -14,7 +14,8 @@ use answers::Buffer;
 fn push_placed(out: &mut [u8], at: usize, words: &[u8], place: u32) -> usize
     requires { ⌜ at ≤ length (now out) ⌝ }
     ensures { λ r. ⌜ Counts r (now (out .exit)) ⌝ }
-    ensures { λ r. ⌜ take r (now (out .exit)) ≡ grown (now (out .entry)) at (placedOf (now (words .entry)) place) ⌝ }
+    ensures { λ r. ⌜ r ≡ grownEnd (now (out .entry)) at (placedOf (now (words .entry)) place) ⌝ }
+    ensures { λ _. ⌜ now (out .exit) ≡ grown (now (out .entry)) at (placedOf (now (words .entry)) place) ⌝ }
 {
     let n = push(out, at, words);
     let n = push(out, n, b", at byte ");
@@ -25,7 +26,8 @@ fn push_placed(out: &mut [u8], at: usize, words: &[u8], place: u32) -> usize
 fn push_words(out: &mut [u8], at: usize, answer: Answer) -> usize
     requires { ⌜ at ≤ length (now out) ⌝ }
     ensures { λ r. ⌜ Counts r (now (out .exit)) ⌝ }
-    ensures { λ r. ⌜ take r (now (out .exit)) ≡ grown (now (out .entry)) at (wordsOf answer) ⌝ }
+    ensures { λ r. ⌜ r ≡ grownEnd (now (out .entry)) at (wordsOf answer) ⌝ }
+    ensures { λ _. ⌜ now (out .exit) ≡ grown (now (out .entry)) at (wordsOf answer) ⌝ }
 {
     match answer {
         Answer::Done => push(out, at, b"nothing is refused"),
@@ -61,7 +63,8 @@ fn push_words(out: &mut [u8], at: usize, answer: Answer) -> usize
 fn push_counts(out: &mut [u8], at: usize, events: usize, samples: usize) -> usize
     requires { ⌜ at ≤ length (now out) ⌝ }
     ensures { λ r. ⌜ Counts r (now (out .exit)) ⌝ }
-    ensures { λ r. ⌜ take r (now (out .exit)) ≡ grown (now (out .entry)) at (countsOf events samples) ⌝ }
+    ensures { λ r. ⌜ r ≡ grownEnd (now (out .entry)) at (countsOf events samples) ⌝ }
+    ensures { λ _. ⌜ now (out .exit) ≡ grown (now (out .entry)) at (countsOf events samples) ⌝ }
 {
     let n = push_number(out, at, events as u64);
     let n = push(out, n, b" events, ");
@@ -73,7 +76,8 @@ fn push_counts(out: &mut [u8], at: usize, events: usize, samples: usize) -> usiz
 fn push_refusal(out: &mut [u8], at: usize, answer: Answer) -> usize
     requires { ⌜ at ≤ length (now out) ⌝ }
     ensures { λ r. ⌜ Counts r (now (out .exit)) ⌝ }
-    ensures { λ r. ⌜ take r (now (out .exit)) ≡ grown (now (out .entry)) at (refusalOf answer) ⌝ }
+    ensures { λ r. ⌜ r ≡ grownEnd (now (out .entry)) at (refusalOf answer) ⌝ }
+    ensures { λ _. ⌜ now (out .exit) ≡ grown (now (out .entry)) at (refusalOf answer) ⌝ }
 {
     let n = push_number(out, at, answers::report(answer).number as u64);
     let n = push(out, n, b", ");
@@ -81,9 +85,16 @@ fn push_refusal(out: &mut [u8], at: usize, answer: Answer) -> usize
 }
 
 // The line of a script, from the buffer's start. Answers where it ends.
-pub fn line(out: &mut [u8], name: &[u8], answer: Answer, events: usize, samples: usize) -> usize
+pub fn script_line(
+    out: &mut [u8],
+    name: &[u8],
+    answer: Answer,
+    events: usize,
+    samples: usize,
+) -> usize
     ensures { λ r. ⌜ Counts r (now (out .exit)) ⌝ }
-    ensures { λ r. ⌜ take r (now (out .exit)) ≡ grown (now (out .entry)) 0 (scriptLineOf (now (name .entry)) answer events samples) ⌝ }
+    ensures { λ r. ⌜ r ≡ grownEnd (now (out .entry)) 0 (scriptLineOf (now (name .entry)) answer events samples) ⌝ }
+    ensures { λ _. ⌜ now (out .exit) ≡ grown (now (out .entry)) 0 (scriptLineOf (now (name .entry)) answer events samples) ⌝ }
 {
     let n = push(out, 0, name);
     if answers::is_done(answer) {

@@ -32,7 +32,7 @@ module _ (bundle : List ℕ) where
     unfolding curveEntryOf loadCurveOf
     last-repeats = refl
 
-    entry-fits : (k : ℕ) → T (fits binary32 (curveEntryOf bundle curve k))
+    pub entry-fits : (k : ℕ) → T (fits binary32 (curveEntryOf bundle curve k))
     unfolding curveEntryOf finishedOf volumeEntryOf loadCurveOf
     entry-fits k = go (ltb curve 15)
       where

@@ -2,7 +2,7 @@
 -- of them all that is kept is as worked out afresh.
 use Prim.Native.Nat.{ℕ, zero, suc, _+_, _≤_}
 use mathlib.Core.Path.{_≡_, refl, sym, ap, _∙_, subst}
-use mathlib.Core.Bool.{Bool, true, false, not, cond, _&&_, true≢false}
+use mathlib.Core.Bool.{Bool, true, false, not, cond, true≢false}
 use mathlib.Core.List.{List, [], _∷_}
 use native.Mathlib.Omega.{arith}
 use lib.Ieee.{Float, ofBits, ofInt, div}
@@ -11,8 +11,7 @@ use borrow.Author.Tests.{le-leb}
 use Rattle.answers.specs.declared.Answer.{Answer}
 use Rattle.answers.specs.declared.Answer.the-variants.{Done, Domain, Argument}
 use Rattle.answers.specs.Answers.{isDoneOf, firstOf, unlessOf}
-use Rattle.answers.proofs.Laws.{done-is, first-done, first-assoc, unless-done}
-use Rattle.bundle.specs.Opening.{checkOf}
+use Rattle.answers.proofs.Laws.{done-is, first-done, unless-done}
 use Rattle.integrator.specs.declared.IntegratorState.{IntegratorState}
 use Rattle.integrator.specs.declared.Substeps.{Substeps}
 use Rattle.integrator.specs.declared.Substeps.the-variants.{Settled, NotFinite}
@@ -23,53 +22,54 @@ use Rattle.control.specs.declared.State.{State}
 use Rattle.control.specs.Registers.{startingState, effectiveCutoffOf, writeCutoffLowOf, writeCutoffHighOf, writeSignalRoutingOf, writeModeAndVolumeOf}
 use Rattle.control.specs.Block.{validOf, finiteFloatsOf}
 use Rattle.control.proofs.Valid.{valid-ranges, effective-within, floats-valid, low-valid, high-valid, routing-valid, mode-valid, starting-valid}
-use Rattle.controls.specs.declared.FilterControls.{FilterControls}
 use Rattle.controls.specs.declared.ControlCache.{ControlCache}
 use Rattle.controls.specs.Controls.{refreshFilterControlsOf, refreshModeOutputGainOf, refreshRegisterOutputStateOf, controlsOf}
-use Rattle.controls.specs.Judging.{judgeFilterOf, judgeModeOf, judgeControlsOf, finiteFilterOf, finiteOutputOf, finiteControlsOf}
+use Rattle.controls.specs.Judging.{judgeFilterOf, judgeEntriesOf, judgeDomainOf, judgeControlsOf, finiteControlsOf}
+use Rattle.refresh.specs.Refresh.{judgeGainOf}
+use Rattle.refresh.proofs.Parts.{judged-by-parts}
 use Rattle.sample.specs.declared.Outputs.{Outputs}
 use Rattle.sample.specs.declared.Sampled.{Sampled}
 use Rattle.sample.specs.declared.Sampled.the-variants.{Taken, Refused}
-use Rattle.sample.specs.Sample.{summerSlotOf, filterSampleOf, judgeSampleOf, takenOf, advanceFilterCoreOf, selectFilterOutputOf}
-use Rattle.sample.proofs.Valid.{finiteTaken, sample-kept}
+use Rattle.sample.specs.Sample.{summerSlotOf, judgeInputOf, judgeMixerCountOf, judgeReadsOf, judgeSampleOf, filterSampleOf, takenOf, advanceFilterCoreOf, selectFilterOutputOf}
+use Rattle.sample.proofs.Valid.{finiteTaken, sample-valid}
 use Rattle.script.specs.declared.Event.{Event}
 use Rattle.script.specs.declared.Event.the-variants.{CutoffLow, CutoffHigh, Routing, Mode, Sample, Reset}
 use Rattle.filter.specs.declared.Core.{Core}
 use Rattle.filter.specs.declared.Fed.{Fed}
-use Rattle.filter.specs.Core.{freshTopologyOf, coreOf, judgeLentOf, judgeStateOf, judgeWriteOf, judgeCoreOf, countableOf, soundOf, settledOf, quietOf, withIntegrator, afterOf, startAnswerOf, coreStartOf, refreshedOf, reselectedOf, coreWriteCutoffLowOf, coreWriteCutoffHighOf, coreWriteSignalRoutingOf, coreWriteModeAndVolumeOf, coreResetOf, coreSampleOf, feedOf}
-use Rattle.filter.specs.Plain.{Plain, plainStart, plainChange, plainTaken, plainSample, plainStep, plainTrace}
+use Rattle.filter.specs.Lent.{Lent, judgeLentOf}
+use Rattle.filter.specs.Core.{freshTopologyOf, coreOf, judgeCoreOf, countableOf, soundOf, settledOf, quietOf, withIntegrator, afterOf, coreStartOf, refreshedOf, reselectedOf}
+use Rattle.filter.specs.Core.{changeOf, takeOf, feedEventOf, feedOf}
+use Rattle.filter.specs.Plain.{Plain, refusedAt, plainStart, plainChange, plainTaken, plainSample, plainStep, plainTrace}
 use Rattle.filter.specs.Lists.{coreTrace, shown, shownAll, Fresh, AllFresh}
 
+-- nothing after an answer is the answer
+pub first-of-done : (a : Answer) → firstOf a Done ≡ a
+first-of-done a = go (isDoneOf a) refl
+  where
+    go : (d : Bool) → isDoneOf a ≡ d → cond d Done a ≡ a
+    go true h = sym (done-is a h)
+    go false h = refl
+
 -- What every core of a list has: a valid state, all else worked out afresh from it, and controls that are not refused.
-pub record Kept (bundle : List ℕ) (k : Core) : Type 0 where
+pub record Invariant (l : Lent) (k : Core) : Type 0 where
   pub valid : validOf (k .state) ≡ true
-  pub fresh : Fresh bundle k
-  pub judged : judgeControlsOf bundle (k .state) ≡ Done
+  pub fresh : Fresh l k
+  pub judged : judgeControlsOf (l .bundle) (k .state) ≡ Done
 
 -- ---- controls that are not refused
 
-first-of : (a b c : Bool) → (a && b && c) ≡ true → a ≡ true
-first-of true b c h = refl
-first-of false b c h = h
-
 module _ (bundle : List ℕ) (s : State) (judged : judgeControlsOf bundle s ≡ Done) where
-  filter-usable : judgeFilterOf bundle (effectiveCutoffOf s) (s .registers .resonance) ≡ Done
+  parts : (judgeEntriesOf bundle s ≡ Done) × (judgeDomainOf bundle s ≡ Done)
   unfolding judgeControlsOf
-  filter-usable = first-done _ (firstOf (judgeModeOf bundle (s .registers) (effectiveCutoffOf s)) (unlessOf (finiteControlsOf (controlsOf bundle s)) Domain)) judged .0
+  parts = first-done (judgeEntriesOf bundle s) (judgeDomainOf bundle s) judged
 
   all-finite : finiteControlsOf (controlsOf bundle s) ≡ true
-  unfolding judgeControlsOf
-  all-finite =
-      let domain = unlessOf (finiteControlsOf (controlsOf bundle s)) Domain in
-      let later = firstOf (judgeModeOf bundle (s .registers) (effectiveCutoffOf s)) domain in
-      let p = first-done (judgeFilterOf bundle (effectiveCutoffOf s) (s .registers .resonance)) later judged in
-      unless-done (finiteControlsOf (controlsOf bundle s)) Domain refl (first-done (judgeModeOf bundle (s .registers) (effectiveCutoffOf s)) domain (p .1) .1)
+  unfolding judgeDomainOf
+  all-finite = unless-done (finiteControlsOf (controlsOf bundle s)) Domain refl (parts .1)
 
-  kept-finite : finiteFilterOf (controlsOf bundle s .filter) ≡ true
-  unfolding finiteControlsOf
-  kept-finite =
-      let c = controlsOf bundle s in
-      first-of (finiteFilterOf (c .filter)) (finite (c .«mode_output_gain»)) (finiteOutputOf (c .output)) all-finite
+  filter-usable : judgeFilterOf bundle (effectiveCutoffOf s) (s .registers .resonance) ≡ Done
+  unfolding judgeEntriesOf
+  filter-usable = first-done (judgeFilterOf bundle (effectiveCutoffOf s) (s .registers .resonance)) _ (parts .0) .0
 
 -- ---- a write or a reset
 
@@ -77,88 +77,78 @@ module _ (bundle : List ℕ) (s : State) (judged : judgeControlsOf bundle s ≡ 
 abbrev changed : Fed → Plain
 changed r = record { answer = r .answer; sample = []; state = r .core .state }
 
-abbrev Changes : List ℕ → Core → State → Fed → Type 0
-Changes bundle k t r = (changed r ≡ plainChange bundle (k .state) t) × Kept bundle (r .core)
+abbrev Changes : Lent → Core → State → Fed → Type 0
+Changes l k t r = (changed r ≡ plainChange l (k .state) t) × Invariant l (r .core)
 
 -- one law for all five: `new` is worked out afresh from the next state
-module _ (bundle : List ℕ) (k : Core) (t : State) (new : Core) (kept : Kept bundle k) (new-is : new ≡ coreOf bundle t) (valid : validOf t ≡ true) where
-  settles : Changes bundle k t (quietOf (settledOf (judgeControlsOf bundle t) k new))
-  settles = go (isDoneOf (judgeControlsOf bundle t)) refl
+module _ (l : Lent) (k : Core) (t : State) (new : Core) (kept : Invariant l k) (new-is : new ≡ coreOf l t) (valid : validOf t ≡ true) where
+  settles : Changes l k t (quietOf (settledOf (judgeControlsOf (l .bundle) t) k new))
+  settles = go (isDoneOf (judgeControlsOf (l .bundle) t)) refl
     where
-      go : (d : Bool) → isDoneOf (judgeControlsOf bundle t) ≡ d → Changes bundle k t (quietOf (settledOf (judgeControlsOf bundle t) k new))
+      go : (d : Bool) → isDoneOf (judgeControlsOf (l .bundle) t) ≡ d → Changes l k t (quietOf (settledOf (judgeControlsOf (l .bundle) t) k new))
       go true h =
-          let j = done-is (judgeControlsOf bundle t) h in
+          let j = done-is (judgeControlsOf (l .bundle) t) h in
           rw (j, new-is) (refl, record { valid = valid; fresh = refl; judged = j })
       go false h = rw h (refl, kept)
 
-module _ (bundle : List ℕ) (k : Core) (opened : checkOf bundle ≡ Done) (kept : Kept bundle k) where
-  write-judged : judgeWriteOf bundle k ≡ Done
-  write-judged = rw (opened, kept .valid) refl
-
+module _ (l : Lent) (k : Core) (kept : Invariant l k) where
   -- a cutoff's write leaves the topology
-  cutoff-new : (t : State) → t .registers .routing ≡ k .state .registers .routing → t .registers .mode ≡ k .state .registers .mode → _≡_ {A = Core} (record { state = t; topology = k .topology; controls = controlsOf bundle t }) (coreOf bundle t)
+  cutoff-new : (t : State) → t .registers .routing ≡ k .state .registers .routing → t .registers .mode ≡ k .state .registers .mode
+      → _≡_ {A = Core} (record { state = t; topology = k .topology; controls = controlsOf (l .bundle) t }) (coreOf l t)
   cutoff-new t r m =
       let e : k .topology ≡ freshTopologyOf t = rw (r, m) (ap (λ (c : Core). c .topology) (kept .fresh)) in
-      ap (λ (x : MixingTopology). record { state = t; topology = x; controls = controlsOf bundle t }) e
+      ap (λ (x : MixingTopology). record { state = t; topology = x; controls = controlsOf (l .bundle) t }) e
 
-  low-changes : (v : ℕ) → Changes bundle k (writeCutoffLowOf (k .state) v) (quietOf (coreWriteCutoffLowOf bundle k v))
-  unfolding coreWriteCutoffLowOf refreshedOf
-  low-changes v = rw write-judged (settles bundle k (writeCutoffLowOf (k .state) v) _ kept (cutoff-new _ refl refl) (low-valid (k .state) (kept .valid) v))
+  low-changes : (v : ℕ) → Changes l k (writeCutoffLowOf (k .state) v) (quietOf (changeOf (l .bundle) k (CutoffLow v)))
+  unfolding refreshedOf
+  low-changes v = settles l k (writeCutoffLowOf (k .state) v) _ kept (cutoff-new _ refl refl) (low-valid (k .state) (kept .valid) v)
 
-  high-changes : (v : ℕ) → Changes bundle k (writeCutoffHighOf (k .state) v) (quietOf (coreWriteCutoffHighOf bundle k v))
-  unfolding coreWriteCutoffHighOf refreshedOf
-  high-changes v = rw write-judged (settles bundle k (writeCutoffHighOf (k .state) v) _ kept (cutoff-new _ refl refl) (high-valid (k .state) (kept .valid) v))
+  high-changes : (v : ℕ) → Changes l k (writeCutoffHighOf (k .state) v) (quietOf (changeOf (l .bundle) k (CutoffHigh v)))
+  unfolding refreshedOf
+  high-changes v = settles l k (writeCutoffHighOf (k .state) v) _ kept (cutoff-new _ refl refl) (high-valid (k .state) (kept .valid) v)
 
-  routing-changes : (v : ℕ) → Changes bundle k (writeSignalRoutingOf (k .state) v) (quietOf (coreWriteSignalRoutingOf bundle k v))
-  unfolding coreWriteSignalRoutingOf refreshedOf
-  routing-changes v = rw write-judged (settles bundle k (writeSignalRoutingOf (k .state) v) _ kept refl (routing-valid (k .state) (kept .valid) v))
+  routing-changes : (v : ℕ) → Changes l k (writeSignalRoutingOf (k .state) v) (quietOf (changeOf (l .bundle) k (Routing v)))
+  unfolding refreshedOf
+  routing-changes v = settles l k (writeSignalRoutingOf (k .state) v) _ kept refl (routing-valid (k .state) (kept .valid) v)
 
-  reset-changes : Changes bundle k startingState (quietOf (coreResetOf bundle k))
-  unfolding coreResetOf refreshedOf
-  reset-changes = rw opened (settles bundle k startingState _ kept refl starting-valid)
+  reset-changes : Changes l k startingState (quietOf (changeOf (l .bundle) k Reset))
+  unfolding refreshedOf
+  reset-changes = settles l k startingState _ kept refl starting-valid
 
-  -- a mode's write leaves the filter's controls
-  abbrev kept-filter : FilterControls
-  kept-filter = refreshFilterControlsOf bundle (effectiveCutoffOf (k .state)) (k .state .registers .resonance)
-
-  filter-fresh : k .controls .filter ≡ kept-filter
-  unfolding controlsOf
-  filter-fresh = ap (λ (c : Core). c .controls .filter) (kept .fresh)
-
-  filter-finite : finiteFilterOf kept-filter ≡ true
-  unfolding controlsOf
-  filter-finite = kept-finite bundle (k .state) (kept .judged)
-
+  -- a mode's write leaves the filter's controls, which are neither refused nor moved
   module _ (v : ℕ) where
     abbrev selected : State
     selected = writeModeAndVolumeOf (k .state) v
 
-    mode-judged :
-        firstOf (judgeModeOf bundle (selected .registers) (effectiveCutoffOf (k .state)))
-        (unlessOf (finite (refreshModeOutputGainOf bundle (selected .registers) (effectiveCutoffOf (k .state))) && finiteOutputOf (refreshRegisterOutputStateOf (selected .registers))) Domain)
-        ≡ judgeControlsOf bundle selected
-    unfolding judgeControlsOf controlsOf finiteControlsOf
-    mode-judged = rw (filter-usable bundle (k .state) (kept .judged), filter-finite) refl
+    mode-judged : judgeGainOf (l .bundle) (selected .registers) (effectiveCutoffOf (k .state)) ≡ judgeControlsOf (l .bundle) selected
+    mode-judged =
+        let small = valid-ranges (k .state) (kept .valid) .resonance in
+        let is = judged-by-parts (l .bundle) selected (omega arith) in
+        sym (is ∙ rw (filter-usable (l .bundle) (k .state) (kept .judged)) refl)
 
     mode-new :
         _≡_ {A = ControlCache}
-        (record { filter = k .controls .filter; «mode_output_gain» = refreshModeOutputGainOf bundle (selected .registers) (effectiveCutoffOf (k .state)); output = refreshRegisterOutputStateOf (selected .registers) })
-        (controlsOf bundle selected)
+        (record {
+          filter = k .controls .filter;
+          «mode_output_gain» = refreshModeOutputGainOf (l .bundle) (selected .registers) (effectiveCutoffOf (k .state));
+          output = refreshRegisterOutputStateOf (selected .registers);
+        })
+        (controlsOf (l .bundle) selected)
     unfolding controlsOf
-    mode-new = rw filter-fresh refl
+    mode-new = rw (ap (λ (c : Core). c .controls .filter) (kept .fresh)) refl
 
-    mode-changes : Changes bundle k selected (quietOf (coreWriteModeAndVolumeOf bundle k v))
-    unfolding coreWriteModeAndVolumeOf reselectedOf
-    mode-changes = rw (write-judged, mode-judged, mode-new) (settles bundle k selected (coreOf bundle selected) kept refl (mode-valid (k .state) (kept .valid) v))
+    mode-changes : Changes l k selected (quietOf (changeOf (l .bundle) k (Mode v)))
+    unfolding reselectedOf
+    mode-changes = rw (mode-judged, mode-new) (settles l k selected (coreOf l selected) kept refl (mode-valid (k .state) (kept .valid) v))
 
--- ---- a sample: the registers stay, so all that is kept stays
+-- ---- what a refused sample has, and what a topology
 
 -- a refused sample has a refusal
 unfoldable pub refuses : Sampled → Bool
 refuses (Taken outputs i) = true
 refuses (Refused answer) = not (isDoneOf answer)
 
-taken-refuses : (c : ControlCache) (count mode : ℕ) (moved : Substeps) → refuses (takenOf c count mode moved) ≡ true
+pub taken-refuses : (c : ControlCache) (count mode : ℕ) (moved : Substeps) → refuses (takenOf c count mode moved) ≡ true
 unfolding takenOf refuses
 taken-refuses c count mode NotFinite = refl
 taken-refuses c count mode (Settled a) = go (finite (selectFilterOutputOf c count mode (a .outputs))) _ _
@@ -167,7 +157,8 @@ taken-refuses c count mode (Settled a) = go (finite (selectFilterOutputOf c coun
     go true o i = refl
     go false o i = refl
 
-pub sample-refuses : (bundle curves : List ℕ) (slot : ℕ) (t : MixingTopology) (c : ControlCache) (mode : ℕ) (i : IntegratorState) (sum energy : Float) → refuses (filterSampleOf bundle curves slot t c mode i sum energy) ≡ true
+pub sample-refuses : (bundle curves : List ℕ) (slot : ℕ) (t : MixingTopology) (c : ControlCache) (mode : ℕ) (i : IntegratorState) (sum energy : Float)
+    → refuses (filterSampleOf bundle curves slot t c mode i sum energy) ≡ true
 unfolding filterSampleOf refuses
 sample-refuses bundle curves slot t c mode i sum energy =
     let judged = judgeSampleOf bundle curves slot t i sum energy in
@@ -196,119 +187,134 @@ unfolding topologyOf
 fresh-countable routing mode =
     let n = filterCountOf routing in
     let h = filter-most routing in
-    rw (le-leb n 4 h, le-leb (outputCountOf mode) 3 (output-most mode), reciprocal-finite n (omega (arith, h)), reciprocal-finite (2 + n) (omega (arith, h)), reciprocal-finite (mixerCountOf routing mode) (mixer-most routing mode)) refl
+    rw (
+      le-leb n 4 h,
+      le-leb (outputCountOf mode) 3 (output-most mode),
+      reciprocal-finite n (omega (arith, h)),
+      reciprocal-finite (2 + n) (omega (arith, h)),
+      reciprocal-finite (mixerCountOf routing mode) (mixer-most routing mode),
+    ) refl
 
-module _ (bundle curves : List ℕ) (s : State) (sum energy : Float) (lent : judgeLentOf bundle curves ≡ Done) (valid : validOf s ≡ true) (judged : judgeControlsOf bundle s ≡ Done) where
-  abbrev sampled : Sampled
-  sampled = filterSampleOf bundle curves (summerSlotOf (freshTopologyOf s)) (freshTopologyOf s) (controlsOf bundle s) (s .registers .mode) (s .integrator) sum energy
+-- every core of a list is whole
+module _ (l : Lent) (s : State) (valid : validOf s ≡ true) (judged : judgeControlsOf (l .bundle) s ≡ Done) where
+  fresh-invariant : Invariant l (coreOf l s)
+  fresh-invariant = record { valid = valid; fresh = refl; judged = judged }
 
-  fresh-kept : Kept bundle (coreOf bundle s)
-  fresh-kept = record { valid = valid; fresh = refl; judged = judged }
-
-  fresh-sound : soundOf (controlsOf bundle s) ≡ true
+  fresh-sound : soundOf (controlsOf (l .bundle) s) ≡ true
   unfolding controlsOf refreshFilterControlsOf
-  fresh-sound = rw (le-leb (effectiveCutoffOf s) 2047 (effective-within s), le-leb (s .registers .resonance) 15 (valid-ranges s valid .resonance)) (all-finite bundle s judged)
+  fresh-sound =
+      rw (le-leb (effectiveCutoffOf s) 2047 (effective-within s), le-leb (s .registers .resonance) 15 (valid-ranges s valid .resonance)) (all-finite (l .bundle) s judged)
 
-  core-judged : judgeCoreOf bundle curves (coreOf bundle s) ≡ Done
-  core-judged = rw (lent, valid, fresh-countable (s .registers .routing) (s .registers .mode), fresh-sound) refl
+  core-judged : judgeCoreOf (coreOf l s) ≡ Done
+  unfolding judgeCoreOf
+  core-judged = rw (valid, fresh-countable (s .registers .routing) (s .registers .mode), fresh-sound) refl
 
-  after-kept : (i : IntegratorState) → finiteFloatsOf i ≡ true → Kept bundle (record { state = withIntegrator s i; topology = freshTopologyOf s; controls = controlsOf bundle s })
-  unfolding controlsOf judgeControlsOf
-  after-kept i f = record { valid = floats-valid s valid i f; fresh = refl; judged = judged }
+  -- ---- a sample: the registers stay, so all that is kept stays
 
-  abbrev Samples : Fed → Plain → Type 0
-  Samples r p = (shown (Sample sum energy) r ≡ p) × Kept bundle (r .core)
+  module _ (sum energy : Float) where
+    abbrev sampled : Sampled
+    sampled =
+        let t = freshTopologyOf s in
+        filterSampleOf (l .bundle) (l .curves) (summerSlotOf t) t (controlsOf (l .bundle) s) (s .registers .mode) (s .integrator) sum energy
 
-  after-taken : (x : Sampled) → refuses x ≡ true → finiteTaken x ≡ true → Samples (afterOf (coreOf bundle s) x) (plainTaken s x)
-  unfolding refuses finiteTaken
-  after-taken (Taken o i) r f = (refl, after-kept i f)
-  after-taken (Refused a) r f = go (isDoneOf a) refl r
-    where
-      go : (d : Bool) → isDoneOf a ≡ d → not d ≡ true → Samples (afterOf (coreOf bundle s) (Refused a)) (plainTaken s (Refused a))
-      go true h n = absurd (true≢false (sym n))
-      go false h n = rw h (refl, fresh-kept)
+    after-invariant : (i : IntegratorState) → finiteFloatsOf i ≡ true
+        → Invariant l (record { state = withIntegrator s i; topology = freshTopologyOf s; controls = controlsOf (l .bundle) s })
+    unfolding controlsOf judgeControlsOf judgeEntriesOf judgeDomainOf
+    after-invariant i f = record { valid = floats-valid s valid i f; fresh = refl; judged = judged }
 
-  pub sample-plain : plainTaken s sampled ≡ plainSample bundle curves s sum energy
-  unfolding plainSample filterSampleOf judgeSampleOf topologyOf
-  sample-plain = go (finite sum && finite energy) refl
-    where
-      go : (f : Bool) → (finite sum && finite energy) ≡ f → plainTaken s sampled ≡ plainSample bundle curves s sum energy
-      go true h = rw (h, le-leb (mixerCountOf (s .registers .routing) (s .registers .mode)) 7 (mixer-most (s .registers .routing) (s .registers .mode)), judged) refl
-      go false h = rw h refl
+    abbrev Samples : Fed → Plain → Type 0
+    Samples r p = (shown (Sample sum energy) r ≡ p) × Invariant l (r .core)
 
-  sample-steps : Samples (coreSampleOf bundle curves (coreOf bundle s) sum energy) (plainSample bundle curves s sum energy)
-  unfolding coreSampleOf
-  sample-steps =
-      rw (core-judged, ← sample-plain)
-      (after-taken sampled (sample-refuses bundle curves _ _ _ _ (s .integrator) sum energy)
-      (sample-kept bundle curves _ _ (s .integrator) sum energy _ _ (valid-ranges s valid .floats)))
+    after-taken : (x : Sampled) → refuses x ≡ true → finiteTaken x ≡ true → Samples (afterOf (coreOf l s) x) (plainTaken s x)
+    unfolding refuses finiteTaken
+    after-taken (Taken o i) r f = (refl, after-invariant i f)
+    after-taken (Refused a) r f = go (isDoneOf a) refl r
+      where
+        go : (d : Bool) → isDoneOf a ≡ d → not d ≡ true → Samples (afterOf (coreOf l s) (Refused a)) (plainTaken s (Refused a))
+        go true h n = absurd (true≢false (sym n))
+        go false h n = rw h (refl, fresh-invariant)
+
+    -- Where the controls are not refused, the plain machine's sample is the sample on what is worked out afresh.
+    pub sample-plain : plainTaken s sampled ≡ plainSample l s sum energy
+    unfolding plainSample filterSampleOf judgeSampleOf
+    sample-plain =
+        let t = freshTopologyOf s in
+        let reads = judgeReadsOf (l .bundle) (l .curves) (summerSlotOf t) t (s .integrator) sum in
+        let p = parts (l .bundle) s judged in
+        rw (p .0, p .1, first-of-done reads) (go (isDoneOf (firstOf (judgeInputOf sum energy) (firstOf (judgeMixerCountOf t) reads))) _ _)
+      where
+        go : (d : Bool) (answer : Answer) (x : Sampled) → plainTaken s (cond d x (Refused answer)) ≡ cond d (plainTaken s x) (refusedAt s answer)
+        go true answer x = refl
+        go false answer x = refl
+
+    sample-steps : Samples (takeOf l (coreOf l s) sum energy) (plainSample l s sum energy)
+    unfolding takeOf
+    sample-steps =
+        rw (← sample-plain)
+        (after-taken sampled (sample-refuses (l .bundle) (l .curves) _ _ _ _ (s .integrator) sum energy)
+        (sample-valid (l .bundle) (l .curves) _ _ (s .integrator) sum energy _ _ (valid-ranges s valid .floats)))
 
 -- ---- any event
 
-abbrev pub Steps : List ℕ → List ℕ → Core → Event → Type 0
-Steps bundle curves k e = (shown e (feedOf bundle curves k e) ≡ plainStep bundle curves (k .state) e) × Kept bundle (feedOf bundle curves k e .core)
+abbrev pub Steps : Lent → Core → Event → Fed → Type 0
+Steps l k e r = (shown e r ≡ plainStep l (k .state) e) × Invariant l (r .core)
 
-module _ (bundle curves : List ℕ) (lent : judgeLentOf bundle curves ≡ Done) where
-  opened : checkOf bundle ≡ Done
-  unfolding judgeLentOf
-  opened = first-done (checkOf bundle) _ lent .0
+module _ (l : Lent) (ready : judgeLentOf l ≡ Done) where
+  event-steps : (k : Core) (e : Event) → Invariant l k → Steps l k e (feedEventOf l k e)
+  event-steps k (CutoffLow v) kept = low-changes l k kept v
+  event-steps k (CutoffHigh v) kept = high-changes l k kept v
+  event-steps k (Routing v) kept = routing-changes l k kept v
+  event-steps k (Mode v) kept = mode-changes l k kept v
+  event-steps k (Sample sum energy) kept =
+      subst (λ (c : Core). Steps l c (Sample sum energy) (feedEventOf l c (Sample sum energy))) (sym (kept .fresh)) (sample-steps l (k .state) (kept .valid) (kept .judged) sum energy)
+  event-steps k Reset kept = reset-changes l k kept
 
-  pub steps : (k : Core) (e : Event) → Kept bundle k → Steps bundle curves k e
-  steps k (CutoffLow v) kept = low-changes bundle k opened kept v
-  steps k (CutoffHigh v) kept = high-changes bundle k opened kept v
-  steps k (Routing v) kept = routing-changes bundle k opened kept v
-  steps k (Mode v) kept = mode-changes bundle k opened kept v
-  steps k (Sample sum energy) kept =
-      subst (λ (c : Core). Steps bundle curves c (Sample sum energy)) (sym (kept .fresh))
-      (sample-steps bundle curves (k .state) sum energy lent (kept .valid) (kept .judged))
-  steps k Reset kept = reset-changes bundle k opened kept
+  pub steps : (k : Core) (e : Event) → Invariant l k → Steps l k e (feedOf l k e)
+  unfolding feedOf
+  steps k e kept =
+      let whole : judgeCoreOf k ≡ Done = rw (kept .fresh) (core-judged l (k .state) (kept .valid) (kept .judged)) in
+      rw (ready, whole) (event-steps k e kept)
 
   -- ---- any list of events
 
   pub record Agrees (k : Core) (es : List Event) : Type 0 where
-    pub same : shownAll es (coreTrace bundle curves k es) ≡ plainTrace bundle curves (k .state) es
-    pub fresh : AllFresh bundle (coreTrace bundle curves k es)
+    pub same : shownAll es (coreTrace l k es) ≡ plainTrace l (k .state) es
+    pub fresh : AllFresh l (coreTrace l k es)
 
-  pub agrees : (k : Core) (es : List Event) → Kept bundle k → Agrees k es
+  pub agrees : (k : Core) (es : List Event) → Invariant l k → Agrees k es
   unfolding coreTrace plainTrace shownAll
   agrees k [] kept = record { same = refl; fresh = tt }
   agrees k (e ∷ es) kept =
-      let r = feedOf bundle curves k e in
+      let r = feedOf l k e in
       let st = steps k e kept in
       let rest = agrees (r .core) es (st .1) in
       record {
-        same = ap (λ (l : List Plain). shown e r ∷ l) (rest .same) ∙ ap (λ (p : Plain). p ∷ plainTrace bundle curves (p .state) es) (st .0);
+        same = ap (λ (ps : List Plain). shown e r ∷ ps) (rest .same) ∙ ap (λ (p : Plain). p ∷ plainTrace l (p .state) es) (st .0);
         fresh = (st .1 .fresh, rest .fresh);
       }
 
 -- ---- the start
 
-pub start-same : (bundle curves : List ℕ) (s : State) → startAnswerOf bundle curves s ≡ plainStart bundle curves s
-unfolding startAnswerOf plainStart judgeLentOf
-start-same bundle curves s = first-assoc (checkOf bundle) _ (firstOf (judgeStateOf s) (judgeControlsOf bundle s))
+module _ (l : Lent) (s : State) (started : plainStart l s ≡ Done) where
+  pub start-parts : (judgeLentOf l ≡ Done) × (validOf s ≡ true) × (judgeControlsOf (l .bundle) s ≡ Done)
+  unfolding plainStart
+  start-parts =
+      let p = first-done (judgeLentOf l) (firstOf (unlessOf (validOf s) Argument) (judgeControlsOf (l .bundle) s)) started in
+      let q = first-done (unlessOf (validOf s) Argument) (judgeControlsOf (l .bundle) s) (p .1) in
+      (p .0, unless-done (validOf s) Argument refl (q .0), q .1)
 
-pub started-lent : (bundle curves : List ℕ) (s : State) → startAnswerOf bundle curves s ≡ Done → judgeLentOf bundle curves ≡ Done
-unfolding startAnswerOf
-started-lent bundle curves s h = first-done (judgeLentOf bundle curves) (firstOf (judgeStateOf s) (judgeControlsOf bundle s)) h .0
+  pub start-core : coreStartOf l s .core ≡ coreOf l s
+  start-core = rw (start-parts .2) refl
 
-pub started-kept : (bundle curves : List ℕ) (s : State) → startAnswerOf bundle curves s ≡ Done → Kept bundle (coreOf bundle s)
-unfolding startAnswerOf
-started-kept bundle curves s h =
-    let p = first-done (judgeStateOf s) (judgeControlsOf bundle s) (first-done (judgeLentOf bundle curves) (firstOf (judgeStateOf s) (judgeControlsOf bundle s)) h .1) in
-    record { valid = unless-done (validOf s) Argument refl (p .0); fresh = refl; judged = p .1 }
+  pub start-agrees : (es : List Event) → Agrees l (start-parts .0) (coreStartOf l s .core) es
+  start-agrees es = rw start-core (agrees l (start-parts .0) (coreOf l s) es (fresh-invariant l s (start-parts .1) (start-parts .2)))
 
--- DEMAND 3, the first half. For every bundle, curves, state and list of events: the start is answered as the plain machine answers it; and where it is not refused, every
+-- DEMAND 3, the first half. For all that is lent, every state and every list of events: the start is answered as the plain machine answers it; and where it is not refused, every
 -- sample, state and refusal of the list is the plain machine's, and after each event all that is kept equals what is worked out afresh from the state.
-pub record Demand3 (bundle curves : List ℕ) (s : State) (es : List Event) : Type 0 where
-  pub start : coreStartOf bundle curves s .answer ≡ plainStart bundle curves s
-  pub same : plainStart bundle curves s ≡ Done → shownAll es (coreTrace bundle curves (coreStartOf bundle curves s .core) es) ≡ plainTrace bundle curves s es
-  pub fresh : plainStart bundle curves s ≡ Done → AllFresh bundle (coreTrace bundle curves (coreStartOf bundle curves s .core) es)
+pub record Demand3 (l : Lent) (s : State) (es : List Event) : Type 0 where
+  pub start : coreStartOf l s .answer ≡ plainStart l s
+  pub same : plainStart l s ≡ Done → shownAll es (coreTrace l (coreStartOf l s .core) es) ≡ plainTrace l s es
+  pub fresh : plainStart l s ≡ Done → AllFresh l (coreTrace l (coreStartOf l s .core) es)
 
-pub demand-3 : (bundle curves : List ℕ) (s : State) (es : List Event) → Demand3 bundle curves s es
-demand-3 bundle curves s es =
-    let start = start-same bundle curves s in
-    record {
-      start = start;
-      same = λ h. agrees bundle curves (started-lent bundle curves s (start ∙ h)) (coreOf bundle s) es (started-kept bundle curves s (start ∙ h)) .same;
-      fresh = λ h. agrees bundle curves (started-lent bundle curves s (start ∙ h)) (coreOf bundle s) es (started-kept bundle curves s (start ∙ h)) .fresh;
-    }
+pub demand-3 : (l : Lent) (s : State) (es : List Event) → Demand3 l s es
+demand-3 l s es = record { start = refl; same = λ h. start-agrees l s h es .same; fresh = λ h. start-agrees l s h es .fresh }

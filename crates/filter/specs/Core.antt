@@ -3,12 +3,11 @@
 use Prim.Native.Nat.{ℕ}
 use mathlib.Core.Bool.{Bool, cond, _&&_}
 use mathlib.Core.List.{List}
-use lib.Dec.{eqb, leb}
-use lib.ListN.{length}
+use lib.Dec.{leb}
 use lib.Ieee.{Float}
 use lib.Ieee.Scale.{finite}
 use Rattle.answers.specs.declared.Answer.{Answer}
-use Rattle.answers.specs.declared.Answer.the-variants.{Done, CurvesLength, Domain, Argument}
+use Rattle.answers.specs.declared.Answer.the-variants.{Done, Argument}
 use Rattle.answers.specs.Answers.{firstOf, unlessOf, isDoneOf}
 use Rattle.floats.specs.Arithmetic.{f32}
 use Rattle.integrator.specs.declared.IntegratorState.{IntegratorState}
@@ -16,11 +15,12 @@ use Rattle.mixing.specs.declared.MixingTopology.{MixingTopology}
 use Rattle.mixing.specs.Topology.{topologyOf}
 use Rattle.bundle.specs.Opening.{checkOf}
 use Rattle.control.specs.declared.State.{State}
-use Rattle.control.specs.Registers.{startingState, effectiveCutoffOf, writeCutoffLowOf, writeCutoffHighOf, writeSignalRoutingOf, writeModeAndVolumeOf}
+use Rattle.control.specs.Registers.{cutoffMax, nibbleMax, startingState, effectiveCutoffOf, writeCutoffLowOf, writeCutoffHighOf, writeSignalRoutingOf, writeModeAndVolumeOf}
 use Rattle.control.specs.Block.{validOf}
 use Rattle.controls.specs.declared.ControlCache.{ControlCache}
 use Rattle.controls.specs.Controls.{refreshModeOutputGainOf, refreshRegisterOutputStateOf, controlsOf}
-use Rattle.controls.specs.Judging.{judgeModeOf, judgeControlsOf, finiteOutputOf, finiteControlsOf}
+use Rattle.controls.specs.Judging.{judgeControlsOf, finiteControlsOf}
+use Rattle.refresh.specs.Refresh.{judgeGainOf, refreshOf}
 use Rattle.sample.specs.declared.Outputs.{Outputs}
 use Rattle.sample.specs.declared.Sampled.{Sampled}
 use Rattle.sample.specs.declared.Sampled.the-variants.{Taken, Refused}
@@ -30,28 +30,20 @@ use Rattle.script.specs.declared.Event.the-variants.{CutoffLow, CutoffHigh, Rou
 use Rattle.filter.specs.declared.Core.{Core}
 use Rattle.filter.specs.declared.Written.{Written}
 use Rattle.filter.specs.declared.Fed.{Fed}
+use Rattle.filter.specs.Lent.{Lent, judgeLentOf}
+use Rattle.filter.specs.Plain.{plainStart}
 
 -- ---- all that is kept, worked out afresh from a state: `update`, then the three refresh calls
 
 abbrev pub freshTopologyOf : State → MixingTopology
 freshTopologyOf s = topologyOf (s .registers .routing) (s .registers .mode)
 
-abbrev pub coreOf : List ℕ → State → Core
-coreOf bundle s = record { state = s; topology = freshTopologyOf s; controls = controlsOf bundle s }
+abbrev pub coreOf : Lent → State → Core
+coreOf l s = record { state = s; topology = freshTopologyOf s; controls = controlsOf (l .bundle) s }
 
--- ---- before the event: 1, 2, 4, 10
+-- ---- a core that is handed in: 10, by one rule for every method
 
-unfoldable pub judgeLentOf : List ℕ → List ℕ → Answer
-judgeLentOf bundle curves = firstOf (checkOf bundle) (unlessOf (eqb (length curves) 254076) CurvesLength)
-
-abbrev pub judgeStateOf : State → Answer
-judgeStateOf s = unlessOf (validOf s) Argument
-
--- of the core, a write reads the state alone
-abbrev pub judgeWriteOf : List ℕ → Core → Answer
-judgeWriteOf bundle k = firstOf (checkOf bundle) (judgeStateOf (k .state))
-
--- a sample reads what is kept: no index past its table (the chip has four inputs and three outputs), and every float finite
+-- no index past its table (the chip has four inputs and three outputs), and every float finite
 abbrev pub countableOf : MixingTopology → Bool
 countableOf t =
     leb (t .«filter_input_count») 4
@@ -61,10 +53,10 @@ countableOf t =
     && finite (t .«mixer_input_reciprocal»)
 
 abbrev pub soundOf : ControlCache → Bool
-soundOf c = leb (c .filter .«effective_cutoff_index») 2047 && leb (c .filter .«resonance_index») 15 && finiteControlsOf c
+soundOf c = leb (c .filter .«effective_cutoff_index») cutoffMax && leb (c .filter .«resonance_index») nibbleMax && finiteControlsOf c
 
-abbrev pub judgeCoreOf : List ℕ → List ℕ → Core → Answer
-judgeCoreOf bundle curves k = firstOf (judgeLentOf bundle curves) (unlessOf (validOf (k .state) && countableOf (k .topology) && soundOf (k .controls)) Argument)
+unfoldable pub judgeCoreOf : Core → Answer
+judgeCoreOf k = unlessOf (validOf (k .state) && countableOf (k .topology) && soundOf (k .controls)) Argument
 
 -- ---- what an event hands back
 
@@ -88,15 +80,12 @@ abbrev pub afterOf : Core → Sampled → Fed
 afterOf k (Taken outputs i) = record { answer = Done; outputs = outputs; core = record { state = withIntegrator (k .state) i; topology = k .topology; controls = k .controls } }
 afterOf k (Refused answer) = record { answer = answer; outputs = noOutputs; core = k }
 
--- ---- the start
+-- ---- the start: the core of a state; where it is refused, no list starts from what it hands back
 
-unfoldable pub startAnswerOf : List ℕ → List ℕ → State → Answer
-startAnswerOf bundle curves s = firstOf (judgeLentOf bundle curves) (firstOf (judgeStateOf s) (judgeControlsOf bundle s))
+abbrev pub coreStartOf : Lent → State → Written
+coreStartOf l s = record { answer = plainStart l s; core = record { state = s; topology = freshTopologyOf s; controls = refreshOf (l .bundle) s .controls } }
 
-abbrev pub coreStartOf : List ℕ → List ℕ → State → Written
-coreStartOf bundle curves s = record { answer = startAnswerOf bundle curves s; core = coreOf bundle s }
-
--- ---- the writes and the reset
+-- ---- what an event does to a core that is not refused
 
 -- `refresh_filter_controls`, `refresh_mode_output_gain` and `refresh_register_output_state` at the next state
 unfoldable pub refreshedOf : List ℕ → Core → State → MixingTopology → Written
@@ -108,44 +97,41 @@ reselectedOf bundle k s t =
     let effective = effectiveCutoffOf s in
     let gain = refreshModeOutputGainOf bundle (s .registers) effective in
     let output = refreshRegisterOutputStateOf (s .registers) in
-    settledOf (firstOf (judgeModeOf bundle (s .registers) effective) (unlessOf (finite gain && finiteOutputOf output) Domain)) k
+    settledOf (judgeGainOf bundle (s .registers) effective) k
     (record { state = s; topology = t; controls = record { filter = k .controls .filter; «mode_output_gain» = gain; output = output } })
 
--- a write of the cutoff does not touch the topology
-unfoldable pub coreWriteCutoffLowOf : List ℕ → Core → ℕ → Written
-coreWriteCutoffLowOf bundle k value = guardedOf (judgeWriteOf bundle k) k (refreshedOf bundle k (writeCutoffLowOf (k .state) value) (k .topology))
+-- A write of the cutoff does not touch the topology, one of the mode not the filter's controls. A sample is no change.
+abbrev pub changeOf : List ℕ → Core → Event → Written
+changeOf bundle k (CutoffLow value) = refreshedOf bundle k (writeCutoffLowOf (k .state) value) (k .topology)
+changeOf bundle k (CutoffHigh value) = refreshedOf bundle k (writeCutoffHighOf (k .state) value) (k .topology)
+changeOf bundle k (Routing value) = let s = writeSignalRoutingOf (k .state) value in refreshedOf bundle k s (freshTopologyOf s)
+changeOf bundle k (Mode value) = let s = writeModeAndVolumeOf (k .state) value in reselectedOf bundle k s (freshTopologyOf s)
+changeOf bundle k (Sample sum energy) = record { answer = Done; core = k }
+changeOf bundle k Reset = refreshedOf bundle k startingState (freshTopologyOf startingState)
 
-unfoldable pub coreWriteCutoffHighOf : List ℕ → Core → ℕ → Written
-coreWriteCutoffHighOf bundle k value = guardedOf (judgeWriteOf bundle k) k (refreshedOf bundle k (writeCutoffHighOf (k .state) value) (k .topology))
+-- the topology and the controls as they are handed in
+unfoldable pub takeOf : Lent → Core → Float → Float → Fed
+takeOf l k sum energy =
+    let t = k .topology in
+    afterOf k (filterSampleOf (l .bundle) (l .curves) (summerSlotOf t) t (k .controls) (k .state .registers .mode) (k .state .integrator) sum energy)
 
-unfoldable pub coreWriteSignalRoutingOf : List ℕ → Core → ℕ → Written
-coreWriteSignalRoutingOf bundle k value =
-    let s = writeSignalRoutingOf (k .state) value in
-    guardedOf (judgeWriteOf bundle k) k (refreshedOf bundle k s (freshTopologyOf s))
+-- any event
+abbrev pub feedEventOf : Lent → Core → Event → Fed
+feedEventOf l k (CutoffLow value) = quietOf (changeOf (l .bundle) k (CutoffLow value))
+feedEventOf l k (CutoffHigh value) = quietOf (changeOf (l .bundle) k (CutoffHigh value))
+feedEventOf l k (Routing value) = quietOf (changeOf (l .bundle) k (Routing value))
+feedEventOf l k (Mode value) = quietOf (changeOf (l .bundle) k (Mode value))
+feedEventOf l k (Sample sum energy) = takeOf l k sum energy
+feedEventOf l k Reset = quietOf (changeOf (l .bundle) k Reset)
 
-unfoldable pub coreWriteModeAndVolumeOf : List ℕ → Core → ℕ → Written
-coreWriteModeAndVolumeOf bundle k value =
-    let s = writeModeAndVolumeOf (k .state) value in
-    guardedOf (judgeWriteOf bundle k) k (reselectedOf bundle k s (freshTopologyOf s))
+-- ---- the methods: 1, 2 and 4 of what is lent, 10 of the core, then the event
 
-unfoldable pub coreResetOf : List ℕ → Core → Written
-coreResetOf bundle k = guardedOf (checkOf bundle) k (refreshedOf bundle k startingState (freshTopologyOf startingState))
+-- a write or the reset is lent the bundle alone
+unfoldable pub coreWriteOf : List ℕ → Core → Event → Written
+coreWriteOf bundle k e = guardedOf (firstOf (checkOf bundle) (judgeCoreOf k)) k (changeOf bundle k e)
 
--- ---- the sample
+abbrev pub judgeFeedOf : Lent → Core → Answer
+judgeFeedOf l k = firstOf (judgeLentOf l) (judgeCoreOf k)
 
-unfoldable pub coreSampleOf : List ℕ → List ℕ → Core → Float → Float → Fed
-coreSampleOf bundle curves k sum energy =
-    let judged = judgeCoreOf bundle curves k in
-    cond (isDoneOf judged)
-    (afterOf k (filterSampleOf bundle curves (summerSlotOf (k .topology)) (k .topology) (k .controls) (k .state .registers .mode) (k .state .integrator) sum energy))
-    (quietOf (record { answer = judged; core = k }))
-
--- ---- any event
-
-abbrev pub feedOf : List ℕ → List ℕ → Core → Event → Fed
-feedOf bundle curves k (CutoffLow value) = quietOf (coreWriteCutoffLowOf bundle k value)
-feedOf bundle curves k (CutoffHigh value) = quietOf (coreWriteCutoffHighOf bundle k value)
-feedOf bundle curves k (Routing value) = quietOf (coreWriteSignalRoutingOf bundle k value)
-feedOf bundle curves k (Mode value) = quietOf (coreWriteModeAndVolumeOf bundle k value)
-feedOf bundle curves k (Sample sum energy) = coreSampleOf bundle curves k sum energy
-feedOf bundle curves k Reset = quietOf (coreResetOf bundle k)
+unfoldable pub feedOf : Lent → Core → Event → Fed
+feedOf l k e = cond (isDoneOf (judgeFeedOf l k)) (feedEventOf l k e) (quietOf (record { answer = judgeFeedOf l k; core = k }))

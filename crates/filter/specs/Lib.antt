@@ -1,3 +1,4 @@
+pub mod Lent
 pub mod Core
 pub mod Plain
 pub mod Lists

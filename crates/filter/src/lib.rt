@@ -1,5 +1,7 @@
 // The core: the state with what is kept of it between events, its register writes, its samples and its reset.
 ghost use mathlib.Core.Path.{_≡_};
+ghost use Rattle.script.specs.declared.Event.the-variants.{CutoffLow, CutoffHigh, Routing, Mode, Sample, Reset};
+ghost use Rattle.filter.specs.Lent.{lentOf, judgeLentOf};
 ghost use Rattle.filter.specs.Core as F;
 use answers::Answer;
 use control::State;
@@ -31,18 +33,11 @@ pub struct Fed {
 
 // ---- what a call judges before its event
 
-// The lengths of what is lent, and the bundle's header.
+// What is lent: 1, 2, 4.
 pub fn judge_lent(bundle: &[u8], curves: &[u8]) -> Answer
-    ensures { λ r. ⌜ r ≡ F.judgeLentOf (now (bundle .entry)) (now (curves .entry)) ⌝ }
+    ensures { λ r. ⌜ r ≡ judgeLentOf (lentOf (now (bundle .entry)) (now (curves .entry))) ⌝ }
 {
-    let length = answers::unless(curves.len() == 254076, Answer::CurvesLength);
-    answers::first(bundle::check(bundle), length)
-}
-
-fn judge_state(state: State) -> Answer
-    ensures { λ r. ⌜ r ≡ F.judgeStateOf state ⌝ }
-{
-    answers::unless(state.is_valid(), Answer::Argument)
+    answers::first(bundle::check(bundle), curves::judge_length(curves))
 }
 
 // Counts that the chip has, and finite reciprocals.
@@ -61,13 +56,13 @@ fn sound(controls: ControlCache) -> bool
     ensures { λ r. ⌜ r ≡ F.soundOf controls ⌝ }
 {
     let filter = controls.filter;
-    (filter.effective_cutoff_index <= 2047)
-        & (filter.resonance_index <= 15)
+    (filter.effective_cutoff_index <= State::CUTOFF_MAX as usize)
+        & (filter.resonance_index <= State::NIBBLE_MAX as usize)
         & controls::finite_controls(controls)
 }
 
 // The topology of a state.
-fn routed(state: State) -> MixingTopology
+pub fn fresh_topology(state: State) -> MixingTopology
     ensures { λ r. ⌜ r ≡ F.freshTopologyOf state ⌝ }
 {
     let registers = state.registers;
@@ -85,7 +80,7 @@ fn settled(answer: Answer, old: Core, new: Core) -> Written
     Written { answer, core: old }
 }
 
-fn judged(answer: Answer, taken: Core, written: Written) -> Written
+fn guarded(answer: Answer, taken: Core, written: Written) -> Written
     ensures { λ r. ⌜ r ≡ F.guardedOf answer taken written ⌝ }
 {
     if answers::is_done(answer) {
@@ -140,49 +135,39 @@ fn after(before: Core, sampled: Sampled) -> Fed
 impl Core {
     // Works the core of a state out: the first core of a list of events. Refuses 1, 2, 4, 10, 3, 6.
     pub fn start(bundle: &[u8], curves: &[u8], state: State) -> Written
-        ensures { λ r. ⌜ r ≡ F.coreStartOf (now (bundle .entry)) (now (curves .entry)) state ⌝ }
+        ensures { λ r. ⌜ r ≡ F.coreStartOf (lentOf (now (bundle .entry)) (now (curves .entry))) state ⌝ }
     {
-        let fresh = controls::refresh(bundle, state);
+        let fresh = refresh::refresh(bundle, state);
         let refreshed = fresh.answer;
         let controls = fresh.controls;
-        let judged = answers::first(judge_state(state), refreshed);
+        let valid = answers::unless(state.is_valid(), Answer::Argument);
+        let judged = answers::first(valid, refreshed);
         Written {
             answer: answers::first(judge_lent(bundle, curves), judged),
             core: Core {
                 state,
-                topology: routed(state),
+                topology: fresh_topology(state),
                 controls,
             },
         }
     }
 
-    // What a write judges of the core that it takes: it reads nothing but the state.
-    fn judge_write(self, bundle: &[u8]) -> Answer
-        ensures { λ r. ⌜ r ≡ F.judgeWriteOf (now (bundle .entry)) self ⌝ }
-    {
-        let state = self.state;
-        answers::first(bundle::check(bundle), judge_state(state))
-    }
-
-    // What a sample judges of the core that it takes.
-    fn judge_core(self, bundle: &[u8], curves: &[u8]) -> Answer
-        ensures { λ r. ⌜ r ≡ F.judgeCoreOf (now (bundle .entry)) (now (curves .entry)) self ⌝ }
+    // A core that is handed in: 10 where its state is invalid, an index past its table or a number not finite. What is merely stale is taken.
+    fn judge(self) -> Answer
+        ensures { λ r. ⌜ r ≡ F.judgeCoreOf self ⌝ }
     {
         let state = self.state;
         let topology = self.topology;
         let controls = self.controls;
-        let ready = state.is_valid() & countable(topology) & sound(controls);
-        answers::first(
-            judge_lent(bundle, curves),
-            answers::unless(ready, Answer::Argument),
-        )
+        let whole = state.is_valid() & countable(topology) & sound(controls);
+        answers::unless(whole, Answer::Argument)
     }
 
     // The next core of a state and a topology, with every control worked out afresh. Refuses 3, 6.
     fn refreshed(self, bundle: &[u8], state: State, topology: MixingTopology) -> Written
         ensures { λ r. ⌜ r ≡ F.refreshedOf (now (bundle .entry)) self state topology ⌝ }
     {
-        let fresh = controls::refresh(bundle, state);
+        let fresh = refresh::refresh(bundle, state);
         let answer = fresh.answer;
         let controls = fresh.controls;
         settled(
@@ -203,15 +188,12 @@ impl Core {
         let registers = state.registers;
         let effective = state.effective_cutoff();
         let mut controls = self.controls;
-        let gain = controls::refresh_mode_output_gain(bundle, registers, effective);
+        let gain = refresh::read_mode_output_gain(bundle, registers, effective);
         let output = controls::refresh_register_output_state(registers);
-        controls.mode_output_gain = gain;
+        controls.mode_output_gain = refresh::gain_value(gain);
         controls.output = output;
-        let finite = floats::is_finite(gain) & controls::finite_output(output);
-        let domain = answers::unless(finite, Answer::Domain);
-        let answer = answers::first(controls::judge_mode(bundle, registers, effective), domain);
         settled(
-            answer,
+            refresh::gain_answer(gain),
             self,
             Core {
                 state,
@@ -221,119 +203,148 @@ impl Core {
         )
     }
 
-    // FC LO. Refuses 1, 2, 10, 3, 6, as each write does.
-    pub fn write_cutoff_low(self, bundle: &[u8], value: u8) -> Written
-        ensures { λ r. ⌜ r ≡ F.coreWriteCutoffLowOf (now (bundle .entry)) self value ⌝ }
+    // What an event that is no sample makes of the core. Refuses 3, 6.
+    fn change(self, bundle: &[u8], event: Event) -> Written
+        ensures { λ r. ⌜ r ≡ F.changeOf (now (bundle .entry)) self event ⌝ }
     {
         let state = self.state;
         let topology = self.topology;
-        let next = state.write_cutoff_low(value);
-        judged(
-            self.judge_write(bundle),
-            self,
-            self.refreshed(bundle, next, topology),
-        )
+        match event {
+            Event::CutoffLow(value) => {
+                self.refreshed(bundle, state.write_cutoff_low(value), topology)
+            }
+            Event::CutoffHigh(value) => {
+                self.refreshed(bundle, state.write_cutoff_high(value), topology)
+            }
+            Event::Routing(value) => {
+                let rerouted = state.write_signal_routing(value);
+                self.refreshed(bundle, rerouted, fresh_topology(rerouted))
+            }
+            Event::Mode(value) => {
+                let next = state.write_mode_and_volume(value);
+                self.reselected(bundle, next, fresh_topology(next))
+            }
+            Event::Sample {
+                input_sum: _sum,
+                source_energy: _energy,
+            } => Written {
+                answer: Answer::Done,
+                core: self,
+            },
+            Event::Reset => {
+                let start = state.reset();
+                self.refreshed(bundle, start, fresh_topology(start))
+            }
+        }
+    }
+
+    // What a sample makes of the core. Refuses 5, 9, 3, 6.
+    fn take(self, bundle: &[u8], curves: &[u8], input_sum: f32, source_energy: f32) -> Fed
+        ensures { λ r. ⌜ r ≡ F.takeOf (lentOf (now (bundle .entry)) (now (curves .entry))) self «input_sum» «source_energy» ⌝ }
+    {
+        let state = self.state;
+        let registers = state.registers;
+        let integrator = state.integrator;
+        let topology = self.topology;
+        let controls = self.controls;
+        let sampled = sample::filter_sample(
+            bundle,
+            curves,
+            sample::summer_slot(topology),
+            topology,
+            controls,
+            registers.mode,
+            integrator,
+            input_sum,
+            source_energy,
+        );
+        after(self, sampled)
+    }
+
+    fn feed_event(self, bundle: &[u8], curves: &[u8], event: Event) -> Fed
+        ensures { λ r. ⌜ r ≡ F.feedEventOf (lentOf (now (bundle .entry)) (now (curves .entry))) self event ⌝ }
+    {
+        match event {
+            Event::CutoffLow(value) => quiet(self.change(bundle, Event::CutoffLow(value))),
+            Event::CutoffHigh(value) => quiet(self.change(bundle, Event::CutoffHigh(value))),
+            Event::Routing(value) => quiet(self.change(bundle, Event::Routing(value))),
+            Event::Mode(value) => quiet(self.change(bundle, Event::Mode(value))),
+            Event::Sample {
+                input_sum,
+                source_energy,
+            } => self.take(bundle, curves, input_sum, source_energy),
+            Event::Reset => quiet(self.change(bundle, Event::Reset)),
+        }
+    }
+
+    // A write, lent the bundle alone.
+    fn write(self, bundle: &[u8], event: Event) -> Written
+        ensures { λ r. ⌜ r ≡ F.coreWriteOf (now (bundle .entry)) self event ⌝ }
+    {
+        let judged = answers::first(bundle::check(bundle), self.judge());
+        guarded(judged, self, self.change(bundle, event))
+    }
+
+    // FC LO. Refuses 1, 2, 10, 3, 6, as each write does.
+    pub fn write_cutoff_low(self, bundle: &[u8], value: u8) -> Written
+        ensures { λ r. ⌜ r ≡ F.coreWriteOf (now (bundle .entry)) self (CutoffLow value) ⌝ }
+    {
+        self.write(bundle, Event::CutoffLow(value))
     }
 
     // FC HI.
     pub fn write_cutoff_high(self, bundle: &[u8], value: u8) -> Written
-        ensures { λ r. ⌜ r ≡ F.coreWriteCutoffHighOf (now (bundle .entry)) self value ⌝ }
+        ensures { λ r. ⌜ r ≡ F.coreWriteOf (now (bundle .entry)) self (CutoffHigh value) ⌝ }
     {
-        let state = self.state;
-        let topology = self.topology;
-        let next = state.write_cutoff_high(value);
-        judged(
-            self.judge_write(bundle),
-            self,
-            self.refreshed(bundle, next, topology),
-        )
+        self.write(bundle, Event::CutoffHigh(value))
     }
 
     // RES/FILT: the topology follows.
     pub fn write_signal_routing(self, bundle: &[u8], value: u8) -> Written
-        ensures { λ r. ⌜ r ≡ F.coreWriteSignalRoutingOf (now (bundle .entry)) self value ⌝ }
+        ensures { λ r. ⌜ r ≡ F.coreWriteOf (now (bundle .entry)) self (Routing value) ⌝ }
     {
-        let state = self.state;
-        let rerouted = state.write_signal_routing(value);
-        let topology = routed(rerouted);
-        judged(
-            self.judge_write(bundle),
-            self,
-            self.refreshed(bundle, rerouted, topology),
-        )
+        self.write(bundle, Event::Routing(value))
     }
 
     // MODE/VOL: the topology follows, the filter's controls stay.
     pub fn write_mode_and_volume(self, bundle: &[u8], value: u8) -> Written
-        ensures { λ r. ⌜ r ≡ F.coreWriteModeAndVolumeOf (now (bundle .entry)) self value ⌝ }
+        ensures { λ r. ⌜ r ≡ F.coreWriteOf (now (bundle .entry)) self (Mode value) ⌝ }
     {
-        let state = self.state;
-        let next = state.write_mode_and_volume(value);
-        let topology = routed(next);
-        judged(
-            self.judge_write(bundle),
-            self,
-            self.reselected(bundle, next, topology),
-        )
+        self.write(bundle, Event::Mode(value))
     }
 
-    // The core of the starting value, whatever the core was. Refuses 1, 2, 3, 6.
+    // The core of the starting value.
     pub fn reset(self, bundle: &[u8]) -> Written
-        ensures { λ r. ⌜ r ≡ F.coreResetOf (now (bundle .entry)) self ⌝ }
+        ensures { λ r. ⌜ r ≡ F.coreWriteOf (now (bundle .entry)) self Reset ⌝ }
     {
-        let start = State::new();
-        let topology = routed(start);
-        judged(
-            bundle::check(bundle),
-            self,
-            self.refreshed(bundle, start, topology),
-        )
+        self.write(bundle, Event::Reset)
     }
 
     // One sample. Refuses 1, 2, 4, 10, 5, 9, 3, 6.
     pub fn sample(self, bundle: &[u8], curves: &[u8], input_sum: f32, source_energy: f32) -> Fed
-        ensures { λ r. ⌜ r ≡ F.coreSampleOf (now (bundle .entry)) (now (curves .entry)) self «input_sum» «source_energy» ⌝ }
+        ensures { λ r. ⌜ r ≡ F.feedOf (lentOf (now (bundle .entry)) (now (curves .entry))) self (Sample «input_sum» «source_energy») ⌝ }
     {
-        let judged = self.judge_core(bundle, curves);
-        if answers::is_done(judged) {
-            let state = self.state;
-            let registers = state.registers;
-            let integrator = state.integrator;
-            let topology = self.topology;
-            let controls = self.controls;
-            let sampled = sample::sample(
-                bundle,
-                curves,
-                sample::summer_slot(topology),
-                topology,
-                controls,
-                registers.mode,
-                integrator,
+        self.feed(
+            bundle,
+            curves,
+            Event::Sample {
                 input_sum,
                 source_energy,
-            );
-            return after(self, sampled);
+            },
+        )
+    }
+
+    // Any event. Refuses 1, 2, 4, 10, and then as its method does.
+    pub fn feed(self, bundle: &[u8], curves: &[u8], event: Event) -> Fed
+        ensures { λ r. ⌜ r ≡ F.feedOf (lentOf (now (bundle .entry)) (now (curves .entry))) self event ⌝ }
+    {
+        let judged = answers::first(judge_lent(bundle, curves), self.judge());
+        if answers::is_done(judged) {
+            return self.feed_event(bundle, curves, event);
         }
         quiet(Written {
             answer: judged,
             core: self,
         })
-    }
-
-    // Any event.
-    pub fn feed(self, bundle: &[u8], curves: &[u8], event: Event) -> Fed
-        ensures { λ r. ⌜ r ≡ F.feedOf (now (bundle .entry)) (now (curves .entry)) self event ⌝ }
-    {
-        match event {
-            Event::CutoffLow(value) => quiet(self.write_cutoff_low(bundle, value)),
-            Event::CutoffHigh(value) => quiet(self.write_cutoff_high(bundle, value)),
-            Event::Routing(value) => quiet(self.write_signal_routing(bundle, value)),
-            Event::Mode(value) => quiet(self.write_mode_and_volume(bundle, value)),
-            Event::Sample {
-                input_sum,
-                source_energy,
-            } => self.sample(bundle, curves, input_sum, source_energy),
-            Event::Reset => quiet(self.reset(bundle)),
-        }
     }
 }

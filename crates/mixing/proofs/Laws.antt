@@ -1,7 +1,7 @@
 -- What `update` puts together is the topology. Assumes nothing.
 use mathlib.Core.Path.{_≡_, refl}
 use mathlib.Core.Bool.{Bool, true, false, not, _&&_}
-use mathlib.Core.List.{[], _∷_}
+use mathlib.Core.List.{List, [], _∷_, _++_}
 use Prim.Native.Nat.{ℕ, _+_, _*_, _≤_}
 use native.Mathlib.Nat.{add-zero, le-trans}
 use lib.Dec.{lit≤}
@@ -9,6 +9,7 @@ use lib.ListN.{getD}
 use lib.Ieee.{Float}
 use Rattle.mixing.specs.declared.MixingTopology.{MixingTopology}
 use Rattle.response.specs.Bits.{bit}
+use Rattle.wire.specs.Text.{ascii}
 use Rattle.mixing.specs.Topology.{one, reciprocalOf, filterCountOf, bypassCountOf, outputCountOf, topologyOf}
 use Rattle.mixing.specs.Line.{digit, flag, lineOf}
 use Rattle.mixing.proofs.Facts.{mixer-is, filter-most, bypass-most, output-most, mixer-most}
@@ -43,12 +44,15 @@ topology-told routing mode f0 f1 f2 f3 o m0 m1 m2 n b q x y z u v =
     simp (x, y, z, u, v, n, b, q, f0, f1, f2, f3, o, m0, m1, m2, mixer-is routing mode, and-true, add-zero)
 
 -- what `line` puts together is the line: f and b are the flags, d the digits
+abbrev member : List Bool → ℕ → ℕ
+member flags i = flag (getD flags i false)
+
 pub line-told : (routing mode : ℕ) {t : MixingTopology} {f0 f1 f2 f3 b0 b1 b2 b3 d0 d1 d2 d3 : ℕ} → t ≡ topologyOf routing mode
-    → f0 ≡ flag (getD (t .«filter_membership») 0 false) → f1 ≡ flag (getD (t .«filter_membership») 1 false) → f2 ≡ flag (getD (t .«filter_membership») 2 false) → f3 ≡ flag (getD (t .«filter_membership») 3 false)
-    → b0 ≡ flag (getD (t .«bypass_membership») 0 false) → b1 ≡ flag (getD (t .«bypass_membership») 1 false) → b2 ≡ flag (getD (t .«bypass_membership») 2 false) → b3 ≡ flag (getD (t .«bypass_membership») 3 false)
+    → f0 ≡ member (t .«filter_membership») 0 → f1 ≡ member (t .«filter_membership») 1 → f2 ≡ member (t .«filter_membership») 2 → f3 ≡ member (t .«filter_membership») 3
+    → b0 ≡ member (t .«bypass_membership») 0 → b1 ≡ member (t .«bypass_membership») 1 → b2 ≡ member (t .«bypass_membership») 2 → b3 ≡ member (t .«bypass_membership») 3
     → d0 ≡ digit (t .«filter_input_count») → d1 ≡ digit (t .«bypass_input_count») → d2 ≡ digit (t .«filter_output_count») → d3 ≡ digit (t .«mixer_input_count»)
-    → 102 ∷ 105 ∷ 108 ∷ 116 ∷ 101 ∷ 114 ∷ 32 ∷ f0 ∷ f1 ∷ f2 ∷ f3 ∷ 32 ∷ 98 ∷ 121 ∷ 112 ∷ 97 ∷ 115 ∷ 115 ∷ 32 ∷ b0 ∷ b1 ∷ b2 ∷ b3
-    ∷ 32 ∷ 99 ∷ 111 ∷ 117 ∷ 110 ∷ 116 ∷ 115 ∷ 32 ∷ d0 ∷ 32 ∷ d1 ∷ 32 ∷ d2 ∷ 32 ∷ d3 ∷ 10 ∷ [] ≡ lineOf routing mode
+    → ascii "filter " ++ (f0 ∷ f1 ∷ f2 ∷ f3 ∷ ascii " bypass ") ++ (b0 ∷ b1 ∷ b2 ∷ b3 ∷ ascii " counts ")
+    ++ (d0 ∷ ascii " ") ++ (d1 ∷ ascii " ") ++ (d2 ∷ ascii " ") ++ (d3 ∷ ascii "\n") ≡ lineOf routing mode
 unfolding topologyOf lineOf
 line-told routing mode t f0 f1 f2 f3 b0 b1 b2 b3 d0 d1 d2 d3 = simp (f0, f1, f2, f3, b0, b1, b2, b3, d0, d1, d2, d3, t)
 

@@ -1,13 +1,13 @@
 -- What the comparison asks of a state's block and of a script.
 use Prim.Native.Nat.{ℕ}
-use mathlib.Core.Bool.{Bool, true, false, cond}
+use mathlib.Core.Bool.{true, false, cond}
 use mathlib.Core.List.{List}
 use lib.Dec.{eqb}
 use Rattle.control.specs.declared.State.{State}
 use Rattle.control.specs.declared.DecodedState.{DecodedState}
 use Rattle.control.specs.declared.DecodedState.the-variants.{Valid, Invalid}
 use Rattle.control.specs.Registers.{effectiveCutoffOf, startingState, writeCutoffLowOf, writeCutoffHighOf, writeSignalRoutingOf, writeModeAndVolumeOf}
-use Rattle.control.specs.Block.{decodeOf, encodeOf}
+use Rattle.control.specs.Block.{encodeOf}
 use Rattle.script.specs.declared.Checked.{Checked}
 use Rattle.script.specs.declared.Checked.the-variants.{WellFormed, Refused}
 use Rattle.probe.specs.declared.Script.{Script}

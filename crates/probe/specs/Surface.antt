@@ -1,5 +1,4 @@
 -- What the comparison asks of the surface and of a curve.
-use Prim.Native.Nat.{ℕ}
 use Rattle.answers.specs.Answers.{numberOf, bufferOf, placeOf}
 use Rattle.sid_filter.specs.declared.Sampled.{Sampled}
 use Rattle.sid_filter.specs.declared.Positioned.{Positioned}

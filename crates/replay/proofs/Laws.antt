@@ -88,7 +88,10 @@ and-true true = refl
 and-true false = refl
 
 -- `all` is of the floats before i
-pub one-more : (s : List ℕ) (p : ℕ) (xs : List Float) (i : ℕ) (all r : Bool) → i < length xs → r ≡ eqb (u32At s (p + 4 * i)) (toBits binary32 (getD xs i nan)) → areFloats s p xs ≡ (all && areFloats s (p + 4 * i) (drop i xs)) → areFloats s p xs ≡ ((all && r) && areFloats s (p + 4 * (i + 1)) (drop (i + 1) xs))
+pub one-more : (s : List ℕ) (p : ℕ) (xs : List Float) (i : ℕ) (all r : Bool) → i < length xs
+    → r ≡ eqb (u32At s (p + 4 * i)) (toBits binary32 (getD xs i nan))
+    → areFloats s p xs ≡ (all && areFloats s (p + 4 * i) (drop i xs))
+    → areFloats s p xs ≡ ((all && r) && areFloats s (p + 4 * (i + 1)) (drop (i + 1) xs))
 one-more s p xs i all r h e q =
     let next : p + 4 * i + 4 ≡ p + 4 * (i + 1) = omega arith in
     q ∙ rw (← next, add-one, drop-cons xs i nan, ← e) (and-assoc all r (areFloats s (p + 4 * i + 4) (drop (suc i) xs)))

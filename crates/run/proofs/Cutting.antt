@@ -1,40 +1,31 @@
--- Demand 3 over every way of cutting a script: the joined pieces are the uncut run, which is the plain machine's.
-use Prim.Native.Nat.{ℕ, suc, _+_, _*_, _≤_}
+-- Demand 3 over every song in pieces, and so over every way of cutting a script: the joined pieces are the plain machine's, and the uncut run's where there is one.
+use Prim.Native.Nat.{ℕ, suc, _+_, _*_}
 use native.Mathlib.Omega.{arith}
-use native.Mathlib.Nat.{zero-add, add-assoc}
+use native.Mathlib.Nat.{zero-add}
 use mathlib.Core.Path.{_≡_, refl, sym, ap, _∙_}
-use mathlib.Core.Bool.{Bool, true, false, cond, _&&_, true≢false}
+use mathlib.Core.Bool.{Bool, true, false, cond}
 use mathlib.Core.List.{List, [], _∷_, _++_, append-assoc}
-use lib.Dec.{eqb, leb}
-use lib.ListN.{length, take, drop, length-append}
+use lib.ListN.{length, drop, length-append}
 use lib.Seq.{take-at}
-use lib.Ieee.{binary32, toBits}
 use borrow.Author.Tests.{le-leb}
-use Rattle.answers.specs.declared.Answer.{Answer}
-use Rattle.answers.specs.declared.Answer.the-variants.{Done, CurvesLength, Argument, Script, OutputLength}
-use Rattle.answers.specs.Answers.{firstOf, unlessOf, isDoneOf}
-use Rattle.answers.proofs.Laws.{done-is, first-assoc}
-use Rattle.wire.specs.Wire.{Bytes, bytesOf, rowBytes}
-use Rattle.floats.proofs.Laws.{both}
-use Rattle.wire.proofs.Laws.{length-bytesOf}
-use Rattle.bundle.specs.Opening.{checkOf}
+use Rattle.answers.specs.declared.Answer.the-variants.{Done}
+use Rattle.answers.specs.Answers.{isDoneOf}
+use Rattle.answers.proofs.Laws.{done-is}
+use Rattle.wire.specs.Wire.{Bytes}
 use Rattle.control.specs.declared.State.{State}
-use Rattle.control.specs.declared.DecodedState.{DecodedState}
-use Rattle.control.specs.declared.DecodedState.the-variants.{Valid, Invalid}
-use Rattle.control.specs.Block.{validOf, blockOf, fieldsOf, decodeOf}
-use Rattle.control.proofs.RoundTrip.{fields-block, decode-block, Decodes, decoded, encode-decoded}
+use Rattle.control.specs.declared.DecodedState.the-variants.{Valid}
+use Rattle.control.specs.Block.{validOf, blockOf, decodeOf}
+use Rattle.control.proofs.RoundTrip.{fields-block, decode-block, decoded, encode-decoded}
 use Rattle.controls.specs.Judging.{judgeControlsOf}
-use Rattle.sample.specs.declared.Outputs.{Outputs}
 use Rattle.script.specs.declared.Event.{Event}
-use Rattle.script.specs.Script.{wellFormed, slicesOf, allReadable, eventsIn, eventsOf, samplesOf}
-use Rattle.script.specs.Pieces.{joined, scriptOf, AllWellFormed}
-use Rattle.script.proofs.Cut.{all-append, events-append, samples-append, Header, header, slices-few, piece-well-formed, piece-events}
-use Rattle.filter.specs.Core.{coreOf, judgeLentOf, judgeStateOf}
+use Rattle.script.specs.Script.{eventsOf, samplesOf}
+use Rattle.filter.specs.Lent.{Lent, judgeLentOf}
 use Rattle.filter.specs.Plain.{Plain, plainStart, plainStep}
-use Rattle.filter.proofs.Demand3.{Kept, steps}
+use Rattle.filter.proofs.Demand3.{first-of-done}
+use Rattle.run.specs.Run.{Ran, stopped, went, playOf, playedOf, sampleBytes, judgeRunOf, judgeScriptOf, leftOf, runOf}
+use Rattle.run.specs.Pieces.{Piece, eventsOfAll, Ready, AllReady, Told, told, toldRan, joinTold, piecesOf, plainTold}
 use Rattle.run.proofs.Bytes.{length-outputs, outputs-append}
-use Rattle.run.specs.Run.{Ran, stopped, went, playOf, playedOf, outputBytes, sampleBytes, isValid, judgeRunOf, judgeScriptOf, Run, leftOf, runOf}
-use Rattle.run.specs.Pieces.{Piece, slicesOfAll, Roomy, AllRoomy, Told, told, toldRan, joinTold, piecesOf, plainTold}
+use Rattle.run.proofs.Good.{Good, good-play}
 
 -- ---- one run after another
 
@@ -63,211 +54,140 @@ went-then p r f = go (isDoneOf (r .answer)) refl
 
 -- ---- the events, cut once
 
-module _ (bundle curves : List ℕ) where
-  -- d is whether the event went
-  cut-event : (d : Bool) (p : Plain) (s : State) (r t : Ran) (f : State → Ran) → isDoneOf (p .answer) ≡ d → r ≡ andThen t f → cond d (went p r) (stopped (p .answer) s) ≡ andThen (cond d (went p t) (stopped (p .answer) s)) f
-  cut-event true p s r t f h e = ap (went p) e ∙ went-then p t f
-  cut-event false p s r t f h e = rw h refl
+-- d is whether the event went
+cut-event : (d : Bool) (p : Plain) (s : State) (r t : Ran) (f : State → Ran) → isDoneOf (p .answer) ≡ d → r ≡ andThen t f
+    → cond d (went p r) (stopped (p .answer) s) ≡ andThen (cond d (went p t) (stopped (p .answer) s)) f
+cut-event true p s r t f h e = ap (went p) e ∙ went-then p t f
+cut-event false p s r t f h e = rw h refl
 
-  play-cut : (s : State) (es fs : List Event) → playOf bundle curves s (es ++ fs) ≡ andThen (playOf bundle curves s es) (λ t. playOf bundle curves t fs)
+module _ (lent : Lent) where
+  play-cut : (s : State) (es fs : List Event) → playOf lent s (es ++ fs) ≡ andThen (playOf lent s es) (λ t. playOf lent t fs)
   unfolding playOf
-  play-cut s [] fs = sym (join-stopped s (playOf bundle curves s fs))
+  play-cut s [] fs = sym (join-stopped s (playOf lent s fs))
   play-cut s (e ∷ es) fs =
-      let p = plainStep bundle curves s e in
-      cut-event (isDoneOf (p .answer)) p s (playOf bundle curves (p .state) (es ++ fs)) (playOf bundle curves (p .state) es) (λ t. playOf bundle curves t fs) refl (play-cut (p .state) es fs)
+      let p = plainStep lent s e in
+      cut-event (isDoneOf (p .answer)) p s (playOf lent (p .state) (es ++ fs)) (playOf lent (p .state) es) (λ t. playOf lent t fs) refl (play-cut (p .state) es fs)
 
-  -- ---- what every event leaves: a valid state whose controls are not refused
+  -- ---- with the start of each run
 
-  pub record Good (s : State) : Type 0 where
-    pub valid : validOf s ≡ true
-    pub judged : judgeControlsOf bundle s ≡ Done
+  module _ (ready : judgeLentOf lent ≡ Done) (s : State) (valid : validOf s ≡ true) where
+    abbrev started : Bool
+    started = isDoneOf (judgeControlsOf (lent .bundle) s)
 
-  module _ (lent : judgeLentOf bundle curves ≡ Done) where
-    pub good-step : (s : State) (e : Event) → Good s → Good (plainStep bundle curves s e .state)
-    good-step s e g =
-        let st = steps bundle curves lent (coreOf bundle s) e (record { valid = g .valid; fresh = refl; judged = g .judged }) in
-        rw (← ap (λ (p : Plain). p .state) (st .0)) (record { valid = st .1 .valid; judged = st .1 .judged })
+    good : started ≡ true → Good lent s
+    good h = record { valid = valid; judged = done-is (judgeControlsOf (lent .bundle) s) h }
 
-    good-play : (s : State) (es : List Event) → Good s → Good (playOf bundle curves s es .state)
-    unfolding playOf
-    good-play s [] g = g
-    good-play s (e ∷ es) g =
-        let p = plainStep bundle curves s e in
-        go (isDoneOf (p .answer)) p (playOf bundle curves (p .state) es) (good-play (p .state) es (good-step s e g))
+    played-valid : (es : List Event) → validOf (playedOf lent s es .state) ≡ true
+    unfolding playedOf
+    played-valid es = go started refl
       where
-        go : (d : Bool) (p : Plain) (r : Ran) → Good (r .state) → Good (cond d (went p r) (stopped (p .answer) s) .state)
-        go true p r h = h
-        go false p r h = g
+        go : (d : Bool) → started ≡ d → validOf (cond d (playOf lent s es) (stopped (judgeControlsOf (lent .bundle) s) s) .state) ≡ true
+        go true h = good-play lent ready s es (good h) .valid
+        go false h = valid
 
-    -- ---- with the start of each run
+    played-cut : (es fs : List Event) → playedOf lent s (es ++ fs) ≡ andThen (playedOf lent s es) (λ t. playedOf lent t fs)
+    unfolding playedOf
+    played-cut es fs = go started refl
+      where
+        restart : (t : State) → Good lent t → playOf lent t fs ≡ playedOf lent t fs
+        restart t g = rw (g .judged) refl
 
-    module _ (s : State) (valid : validOf s ≡ true) where
-      played-valid : (es : List Event) → validOf (playedOf bundle curves s es .state) ≡ true
-      unfolding playedOf
-      played-valid es = go (isDoneOf (judgeControlsOf bundle s)) refl
-        where
-          go : (d : Bool) → isDoneOf (judgeControlsOf bundle s) ≡ d → validOf (cond d (playOf bundle curves s es) (stopped (judgeControlsOf bundle s) s) .state) ≡ true
-          go true h = good-play s es (record { valid = valid; judged = done-is (judgeControlsOf bundle s) h }) .valid
-          go false h = valid
-
-      played-cut : (es fs : List Event) → playedOf bundle curves s (es ++ fs) ≡ andThen (playedOf bundle curves s es) (λ t. playedOf bundle curves t fs)
-      unfolding playedOf
-      played-cut es fs = go (isDoneOf (judgeControlsOf bundle s)) refl
-        where
-          restart : (t : State) → Good t → playOf bundle curves t fs ≡ playedOf bundle curves t fs
-          restart t g = rw (g .judged) refl
-
-          go : (d : Bool) → isDoneOf (judgeControlsOf bundle s) ≡ d
-              → cond d (playOf bundle curves s (es ++ fs)) (stopped (judgeControlsOf bundle s) s)
-              ≡ andThen (cond d (playOf bundle curves s es) (stopped (judgeControlsOf bundle s) s)) (λ t. playedOf bundle curves t fs)
-          go true h =
-              let r = playOf bundle curves s es in
-              play-cut s es fs
-              ∙ ap (λ (x : Ran). cond (isDoneOf (r .answer)) (join r x) r) (restart (r .state) (good-play s es (record { valid = valid; judged = done-is (judgeControlsOf bundle s) h })))
-          go false h = rw h refl
+        go : (d : Bool) → started ≡ d
+            → cond d (playOf lent s (es ++ fs)) (stopped (judgeControlsOf (lent .bundle) s) s)
+            ≡ andThen (cond d (playOf lent s es) (stopped (judgeControlsOf (lent .bundle) s) s)) (λ t. playedOf lent t fs)
+        go true h =
+            let r = playOf lent s es in
+            play-cut s es fs ∙ ap (λ (x : Ran). cond (isDoneOf (r .answer)) (join r x) r) (restart (r .state) (good-play lent ready s es (good h)))
+        go false h = rw h refl
 
 -- ---- on bytes
 
 told-left : (r : Ran) (output : List ℕ) → told (leftOf r output) ≡ toldRan r
-told-left r output = rw (take-at (sampleBytes (r .samples)) (drop (16 * length (r .samples)) output) (16 * length (r .samples)) (length-outputs (r .samples))) refl
+told-left r output =
+    let n = length-outputs (r .samples) in
+    rw (take-at (sampleBytes (r .samples)) (drop (16 * length (r .samples)) output) (16 * length (r .samples)) n) refl
 
 told-join : (r t : Ran) → toldRan (join r t) ≡ joinTold (toldRan r) (toldRan t)
 told-join r t = rw (length-append (r .samples) (t .samples), outputs-append (r .samples) (t .samples)) refl
 
--- ---- a run of a valid state and a well-formed script, given room: it is judged by what is lent alone
+told-then : (d : Bool) (r t : Ran) → cond d (joinTold (toldRan r) (toldRan t)) (toldRan r) ≡ toldRan (cond d (join r t) r)
+told-then true r t = sym (told-join r t)
+told-then false r t = refl
 
-module _ (bundle curves : List ℕ) where
-  abbrev lent : Answer
-  lent = judgeLentOf bundle curves
+-- ---- a piece from a valid state: it is judged by what is lent alone
 
-  module _ (s : State) (script output : List ℕ) (v : validOf s ≡ true) (w : wellFormed script ≡ true) (room : 16 * samplesOf (eventsOf script) ≤ length output) where
-    run-judged : judgeRunOf bundle curves (blockOf s) script (length output) ≡ lent
+module _ (lent : Lent) (s : State) (v : validOf s ≡ true) where
+  abbrev run-told : Piece → Told
+  run-told p = told (runOf lent (blockOf s) (p .script) (p .output))
+
+  module _ (p : Piece) (fine : Ready p) where
+    run-judged : judgeRunOf lent (blockOf s) (p .script) (length (p .output)) ≡ judgeLentOf lent
     unfolding judgeRunOf judgeScriptOf
-    run-judged = rw (decode-block s v, w, le-leb (16 * samplesOf (eventsOf script)) (length output) room) (first-of-done lent)
-      where
-        first-of-done : (a : Answer) → firstOf a Done ≡ a
-        first-of-done a = go (isDoneOf a) refl
-          where
-            go : (d : Bool) → isDoneOf a ≡ d → cond d Done a ≡ a
-            go true h = sym (done-is a h)
-            go false h = refl
+    run-judged = rw (decode-block s v, fine .0, le-leb (16 * samplesOf (eventsOf (p .script))) (length (p .output)) (fine .1)) (first-of-done (judgeLentOf lent))
 
-    told-run : lent ≡ Done → told (runOf bundle curves (blockOf s) script output) ≡ toldRan (playedOf bundle curves s (eventsOf script))
+    piece-told : judgeLentOf lent ≡ Done → run-told p ≡ toldRan (playedOf lent s (eventsOf (p .script)))
     unfolding runOf
-    told-run h = rw (run-judged ∙ h, fields-block s v) (told-left (playedOf bundle curves s (eventsOf script)) output)
+    piece-told ready = rw (run-judged ∙ ready, fields-block s v) (told-left (playedOf lent s (eventsOf (p .script))) (p .output))
 
-    told-refused : isDoneOf lent ≡ false → told (runOf bundle curves (blockOf s) script output) ≡ toldRan (stopped lent s)
+    piece-refused : isDoneOf (judgeLentOf lent) ≡ false → run-told p ≡ toldRan (stopped (judgeLentOf lent) s)
     unfolding runOf sampleBytes
-    told-refused h = rw (run-judged, h) refl
-
-  -- ---- any way of cutting
-
-  -- what is asked of the pieces' events
-  pub record Fine (slices : List (List ℕ)) : Type 0 where
-    pub few : length slices ≤ 65536
-    pub readable : allReadable slices ≡ true
-
-  fine-parts : (a b : List (List ℕ)) → Fine (a ++ b) → Fine a × Fine b
-  fine-parts a b f =
-      let few = f .few in
-      let n = length-append a b in
-      let r = both (allReadable a) (allReadable b) (sym (all-append a b) ∙ f .readable) in
-      (record { few = omega arith; readable = r .0 }, record { few = omega arith; readable = r .1 })
-
-  roomy : (slices : List (List ℕ)) (output : List ℕ) → Fine slices → Roomy slices output → 16 * samplesOf (eventsOf (scriptOf slices)) ≤ length output
-  roomy slices output f room = rw (piece-events slices (f .few) (f .readable)) room
-
-  -- a piece's part in the whole, by what it told
-  abbrev onward : Piece → List Piece → Told → Told
-  onward q rest t = cond (isDoneOf (t .answer)) (joinTold t (piecesOf bundle curves (t .block) q rest)) t
-
-  module _ (s : State) (p : Piece) (v : validOf s ≡ true) (f : Fine (p .slices)) (room : Roomy (p .slices) (p .output)) where
-    abbrev script : List ℕ
-    script = scriptOf (p .slices)
-
-    formed : wellFormed script ≡ true
-    formed = piece-well-formed (p .slices) (f .few) (f .readable)
-
-    piece-told : lent ≡ Done → told (runOf bundle curves (blockOf s) script (p .output)) ≡ toldRan (playedOf bundle curves s (eventsIn (p .slices)))
-    piece-told h =
-        told-run s script (p .output) v formed (roomy (p .slices) (p .output) f room) h
-        ∙ ap (λ (es : List Event). toldRan (playedOf bundle curves s es)) (piece-events (p .slices) (f .few) (f .readable))
-
-    piece-refused : isDoneOf lent ≡ false → told (runOf bundle curves (blockOf s) script (p .output)) ≡ toldRan (stopped lent s)
-    piece-refused = told-refused s script (p .output) v formed (roomy (p .slices) (p .output) f room)
-
-  pieces-told : (h : lent ≡ Done) (s : State) (p : Piece) (rest : List Piece) → validOf s ≡ true → Fine (slicesOfAll p rest) → AllRoomy p rest
-      → piecesOf bundle curves (blockOf s) p rest ≡ toldRan (playedOf bundle curves s (eventsIn (slicesOfAll p rest)))
-  unfolding piecesOf
-  pieces-told h s p [] v f room = piece-told s p v f room h
-  pieces-told h s p (q ∷ rest) v f room =
-      let later = slicesOfAll q rest in
-      let parts = fine-parts (p .slices) later f in
-      let es = eventsIn (p .slices) in
-      let r = playedOf bundle curves s es in
-      ap (onward q rest) (piece-told s p v (parts .0) (room .0) h)
-      ∙ ap (λ (x : Told). cond (isDoneOf (r .answer)) (joinTold (toldRan r) x) (toldRan r)) (pieces-told h (r .state) q rest (played-valid bundle curves h s v es) (parts .1) (room .1))
-      ∙ told-then (isDoneOf (r .answer)) r (playedOf bundle curves (r .state) (eventsIn later))
-      ∙ ap toldRan (sym (played-cut bundle curves h s v es (eventsIn later)))
-      ∙ ap (λ (all : List Event). toldRan (playedOf bundle curves s all)) (sym (events-append (p .slices) later))
-    where
-      told-then : (d : Bool) (r t : Ran) → cond d (joinTold (toldRan r) (toldRan t)) (toldRan r) ≡ toldRan (cond d (join r t) r)
-      told-then true r t = sym (told-join r t)
-      told-then false r t = refl
-
-  pieces-refused : (h : isDoneOf lent ≡ false) (s : State) (p : Piece) (rest : List Piece) → validOf s ≡ true → Fine (slicesOfAll p rest) → AllRoomy p rest
-      → piecesOf bundle curves (blockOf s) p rest ≡ toldRan (stopped lent s)
-  unfolding piecesOf
-  pieces-refused h s p [] v f room = piece-refused s p v f room h
-  pieces-refused h s p (q ∷ rest) v f room =
-      ap (onward q rest) (piece-refused s p v (fine-parts (p .slices) (slicesOfAll q rest) f .0) (room .0) h) ∙ rw h refl
+    piece-refused h = rw (run-judged, h) refl
 
 -- ---- the plain machine beside a run
 
-plain-start-lent : (bundle curves : List ℕ) (s : State) → plainStart bundle curves s ≡ firstOf (judgeLentOf bundle curves) (firstOf (judgeStateOf s) (judgeControlsOf bundle s))
-unfolding plainStart judgeLentOf
-plain-start-lent bundle curves s = sym (first-assoc (checkOf bundle) (unlessOf (eqb (length curves) 254076) CurvesLength) (firstOf (judgeStateOf s) (judgeControlsOf bundle s)))
+module _ (lent : Lent) (s : State) (es : List Event) where
+  plain-goes : judgeLentOf lent ≡ Done → validOf s ≡ true → toldRan (playedOf lent s es) ≡ plainTold lent s es
+  unfolding plainTold plainStart playedOf
+  plain-goes ready v = rw (ready, v) refl
 
-plain-lent : (bundle curves : List ℕ) (s : State) (es : List Event) → judgeLentOf bundle curves ≡ Done → validOf s ≡ true → toldRan (playedOf bundle curves s es) ≡ plainTold bundle curves s es
-unfolding plainTold playedOf
-plain-lent bundle curves s es h v = rw (plain-start-lent bundle curves s, h, v) refl
+  plain-stops : isDoneOf (judgeLentOf lent) ≡ false → toldRan (stopped (judgeLentOf lent) s) ≡ plainTold lent s es
+  unfolding plainTold plainStart
+  plain-stops h = rw (h, h) refl
 
-plain-refused : (bundle curves : List ℕ) (s : State) (es : List Event) → isDoneOf (judgeLentOf bundle curves) ≡ false → toldRan (stopped (judgeLentOf bundle curves) s) ≡ plainTold bundle curves s es
-unfolding plainTold
-plain-refused bundle curves s es h =
-    let e : plainStart bundle curves s ≡ judgeLentOf bundle curves = plain-start-lent bundle curves s ∙ rw h refl in
-    rw (e, h) refl
+-- ---- any list of pieces
 
--- DEMAND 3, the second half. From every valid state block, for every well-formed script and every way of cutting it into one or more pieces in order, empty ones too, each run on an output
--- that has room: samples, end state, events done, samples written and refusal of the joined pieces are the uncut run's and the plain machine's.
-pub record Demand3Cut (bundle curves block script output : List ℕ) (s : State) (p : Piece) (rest : List Piece) : Type 0 where
-  pub uncut : piecesOf bundle curves block p rest ≡ told (runOf bundle curves block script output)
-  pub plain : piecesOf bundle curves block p rest ≡ plainTold bundle curves s (eventsOf script)
+module _ (lent : Lent) where
+  -- the pieces after one, by what it told
+  abbrev onward : Piece → List Piece → Told → Told
+  onward q rest t = cond (isDoneOf (t .answer)) (joinTold t (piecesOf lent (t .block) q rest)) t
 
-pub demand-3-cut :
-    (bundle curves block script output : List ℕ) (s : State) (p : Piece) (rest : List Piece)
-    → Bytes block → decodeOf block ≡ Valid s
-    → wellFormed script ≡ true → slicesOfAll p rest ≡ slicesOf script
-    → AllRoomy p rest → Roomy (slicesOf script) output
-    → Demand3Cut bundle curves block script output s p rest
-demand-3-cut bundle curves block script output s p rest bytes d w cut rooms room =
+  pieces-told : judgeLentOf lent ≡ Done → (s : State) (p : Piece) (rest : List Piece) → validOf s ≡ true → AllReady p rest
+      → piecesOf lent (blockOf s) p rest ≡ toldRan (playedOf lent s (eventsOfAll p rest))
+  unfolding piecesOf
+  pieces-told ready s p [] v fine = piece-told lent s v p fine ready
+  pieces-told ready s p (q ∷ rest) v fine =
+      let es = eventsOf (p .script) in
+      let r = playedOf lent s es in
+      ap (onward q rest) (piece-told lent s v p (fine .0) ready)
+      ∙ ap (λ (x : Told). cond (isDoneOf (r .answer)) (joinTold (toldRan r) x) (toldRan r)) (pieces-told ready (r .state) q rest (played-valid lent ready s v es) (fine .1))
+      ∙ told-then (isDoneOf (r .answer)) r (playedOf lent (r .state) (eventsOfAll q rest))
+      ∙ ap toldRan (sym (played-cut lent ready s v es (eventsOfAll q rest)))
+
+  pieces-refused : isDoneOf (judgeLentOf lent) ≡ false → (s : State) (p : Piece) (rest : List Piece) → validOf s ≡ true → AllReady p rest
+      → piecesOf lent (blockOf s) p rest ≡ toldRan (stopped (judgeLentOf lent) s)
+  unfolding piecesOf
+  pieces-refused h s p [] v fine = piece-refused lent s v p fine h
+  pieces-refused h s p (q ∷ rest) v fine = ap (onward q rest) (piece-refused lent s v p (fine .0) h) ∙ rw h refl
+
+  -- the plain machine beside them
+  pieces-plain : (s : State) (p : Piece) (rest : List Piece) → validOf s ≡ true → AllReady p rest → piecesOf lent (blockOf s) p rest ≡ plainTold lent s (eventsOfAll p rest)
+  pieces-plain s p rest v fine = go (isDoneOf (judgeLentOf lent)) refl
+    where
+      go : (d : Bool) → isDoneOf (judgeLentOf lent) ≡ d → piecesOf lent (blockOf s) p rest ≡ plainTold lent s (eventsOfAll p rest)
+      go true h = let ready = done-is (judgeLentOf lent) h in pieces-told ready s p rest v fine ∙ plain-goes lent s (eventsOfAll p rest) ready v
+      go false h = pieces-refused h s p rest v fine ∙ plain-stops lent s (eventsOfAll p rest) h
+
+-- DEMAND 3, the second half. From every valid state block and for every list of pieces, one or more, each a well-formed script, empty ones too, with an output that has room: samples,
+-- end state, events done, samples written and refusal of the joined pieces are the plain machine's on all their events, however many these are. Where the events are those of one script,
+-- as they are in every way of cutting it (crates/script/proofs/Cut.antt, `cut`), they are the uncut run's too.
+pub record Demand3Cut (lent : Lent) (block : List ℕ) (s : State) (p : Piece) (rest : List Piece) : Type 0 where
+  pub plain : piecesOf lent block p rest ≡ plainTold lent s (eventsOfAll p rest)
+  pub uncut : (whole : Piece) → Ready whole → eventsOf (whole .script) ≡ eventsOfAll p rest → piecesOf lent block p rest ≡ told (runOf lent block (whole .script) (whole .output))
+
+pub demand-3-cut : (lent : Lent) (block : List ℕ) (s : State) (p : Piece) (rest : List Piece) → Bytes block → decodeOf block ≡ Valid s → AllReady p rest → Demand3Cut lent block s p rest
+unfolding piecesOf
+demand-3-cut lent block s p rest bytes d fine =
     let v = decoded block s d .valid in
-    let k = header script w in
-    let fine : Fine bundle curves (slicesOfAll p rest) = rw cut (record { few = slices-few script w; readable = k .readable }) in
+    let plain = pieces-plain lent s p rest v fine in
     rw (← encode-decoded block s bytes d .0)
-    (go (isDoneOf (judgeLentOf bundle curves)) refl v fine)
-  where
-    go : (t : Bool) → isDoneOf (judgeLentOf bundle curves) ≡ t → validOf s ≡ true → Fine bundle curves (slicesOfAll p rest) → Demand3Cut bundle curves (blockOf s) script output s p rest
-    go true h v fine =
-        let e = done-is (judgeLentOf bundle curves) h in
-        let pieces = pieces-told bundle curves e s p rest v fine rooms ∙ ap (λ (x : List (List ℕ)). toldRan (playedOf bundle curves s (eventsIn x))) cut in
-        record {
-          uncut = pieces ∙ sym (told-run bundle curves s script output v w room e);
-          plain = pieces ∙ plain-lent bundle curves s (eventsOf script) e v;
-        }
-    go false h v fine =
-        let pieces = pieces-refused bundle curves h s p rest v fine rooms in
-        record {
-          uncut = pieces ∙ sym (told-refused bundle curves s script output v w room h);
-          plain = pieces ∙ plain-refused bundle curves s (eventsOf script) h;
-        }
+    (record { plain = plain; uncut = λ whole ready same. plain ∙ ap (plainTold lent s) (sym same) ∙ sym (pieces-plain lent s whole [] v ready) })

@@ -1,8 +1,10 @@
 pub mod Bytes
-pub mod Rows
-pub mod Cutting
+pub mod Good
 pub mod Changes
+pub mod Rows
 pub mod Moves
 pub mod Loop
 pub mod Whole
 pub mod ShutOut
+pub mod Cutting
+pub mod Joined

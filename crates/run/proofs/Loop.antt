@@ -1,59 +1,56 @@
--- The events of a script, as the loop takes them: samples in a row, then one event that is none. What it has done, and what is left, is the whole run.
+-- The events of a script, as the loop takes them: other events in a row, then samples in a row. What it has done, and what is left, is the whole run.
 use Prim.Native.Nat.{ℕ, zero, suc, _+_, _-_, _*_, _≤_, _<_}
 use native.Mathlib.Omega.{arith}
 use native.Mathlib.Nat.{zero-add, add-zero}
 use mathlib.Core.Path.{_≡_, refl, sym, ap, _∙_, subst}
-use mathlib.Core.Bool.{Bool, true, false, not, cond, _&&_, true≢false}
-use lib.Dec.{leb}
-use lib.Ieee.Scale.{finite}
+use mathlib.Core.Bool.{Bool, true, false, not, cond, true≢false}
 use mathlib.Core.List.{List, [], _∷_, _++_}
 use lib.ListN.{length, drop, length-append}
+use lib.Ieee.{Float}
 use Rattle.answers.specs.declared.Answer.{Answer}
-use Rattle.answers.specs.declared.Answer.the-variants.{Done, InputNotFinite, MixerInputs}
-use Rattle.answers.specs.Answers.{firstOf, unlessOf, isDoneOf}
-use Rattle.answers.proofs.Laws.{first-done}
+use Rattle.answers.specs.declared.Answer.the-variants.{Done}
+use Rattle.answers.specs.Answers.{isDoneOf}
 use Rattle.wire.specs.Wire.{putAt}
 use Rattle.wire.proofs.Laws.{length-putAt, putAt-nil, putAt-join}
 use Rattle.integrator.specs.declared.IntegratorState.{IntegratorState}
+use Rattle.mixing.specs.declared.MixingTopology.{MixingTopology}
 use Rattle.control.specs.declared.State.{State}
-use Rattle.control.specs.Registers.{effectiveCutoffOf, startingState, writeCutoffLowOf, writeCutoffHighOf, writeSignalRoutingOf, writeModeAndVolumeOf}
+use Rattle.control.specs.Registers.{startingState, writeCutoffLowOf, writeCutoffHighOf, writeSignalRoutingOf, writeModeAndVolumeOf}
+use Rattle.control.specs.Block.{validOf}
 use Rattle.control.proofs.Valid.{valid-ranges}
 use Rattle.controls.specs.declared.ControlCache.{ControlCache}
-use Rattle.controls.specs.Controls.{refreshModeOutputGainOf, refreshFilterControlsOf, controlsOf}
-use Rattle.kept.specs.Kept.{judgeGainOf}
-use Rattle.kept.proofs.Parts.{judged-by-parts}
-use Rattle.bundle.specs.Reading.{readOf}
-use Rattle.mixing.specs.declared.MixingTopology.{MixingTopology}
-use Rattle.sample.specs.Kept.{restOf}
-use Rattle.sample.proofs.Kept.{kept-is-sample}
-use lib.Ieee.{Float}
-use Rattle.controls.specs.Judging.{judgeFilterOf, judgeControlsOf}
+use Rattle.controls.specs.Controls.{refreshFilterControlsOf, controlsOf}
+use Rattle.controls.specs.Judging.{judgeControlsOf}
+use Rattle.refresh.specs.Refresh.{stateGainOf}
+use Rattle.refresh.proofs.Parts.{state-gain}
 use Rattle.sample.specs.declared.Outputs.{Outputs}
 use Rattle.sample.specs.declared.Sampled.{Sampled}
 use Rattle.sample.specs.declared.Sampled.the-variants.{Taken, Refused}
 use Rattle.sample.specs.Sample.{summerSlotOf, filterSampleOf}
+use Rattle.sample.specs.Parts.{restOf}
+use Rattle.sample.proofs.Parts.{parts-are-sample}
 use Rattle.script.specs.declared.Event.{Event}
 use Rattle.script.specs.declared.Event.the-variants.{CutoffLow, CutoffHigh, Routing, Mode, Sample, Reset}
 use Rattle.script.specs.declared.DecodedEvent.{DecodedEvent}
 use Rattle.script.specs.declared.DecodedEvent.the-variants.{Readable, Unreadable}
-use Rattle.script.specs.Script as S
-use Rattle.script.specs.Script.{eventAt, allReadable, eventsIn, samplesOf}
+use Rattle.script.specs.Script.{eventAt, allReadable, eventsIn, sampleCountOf, samplesOf}
 use Rattle.script.proofs.Laws.{slicesFrom, all-next, events-next, all-stop, events-end}
 use Rattle.script.proofs.Cut.{length-slices, length-events}
-use Rattle.filter.specs.Core.{freshTopologyOf, withIntegrator, judgeLentOf}
-use Rattle.filter.specs.Plain.{Plain, refusedAt, plainChange, plainTaken, plainSample, plainStep}
+use Rattle.filter.specs.Lent.{Lent, judgeLentOf}
+use Rattle.filter.specs.Core.{freshTopologyOf, withIntegrator}
+use Rattle.filter.specs.Plain.{Plain, refusedAt, plainChange, plainTaken, judgePlain, plainSampled, plainSample, plainStep}
 use Rattle.filter.proofs.Demand3.{refuses, sample-refuses, sample-plain}
+use Rattle.run.specs.declared.Asked.{Asked}
 use Rattle.run.specs.declared.Row.{Row}
+use Rattle.run.specs.declared.Moved.{Moved}
+use Rattle.run.specs.declared.Resting.{Resting}
 use Rattle.run.specs.declared.Played.{Played}
 use Rattle.run.specs.Run.{Ran, stopped, went, playOf, sampleBytes}
 use Rattle.run.specs.Rows.{Samples, Moves, askedOf, noSamples, oneMore, rowOn, rowOf, movesOf, rowEnd, playEnd}
+use Rattle.run.specs.Parts.{partsOf, cacheOfParts, samplesFrom, movesEnd, restingOf}
 use Rattle.run.proofs.Bytes.{length-outputs, outputs-append}
-use Rattle.run.specs.declared.Asked.{Asked}
-use Rattle.run.specs.declared.Moved.{Moved}
-use Rattle.run.specs.Parts.{gainValue, stateGain, partsOf, cacheOfParts, keptRowOf, movesEnd, restingOf}
-use Rattle.run.specs.declared.Resting.{Resting}
+use Rattle.run.proofs.Good.{Good, good-step}
 use Rattle.run.proofs.Moves.{MovesLaw, moves-law, moves-some}
-use Rattle.run.proofs.Cutting.{Good, good-step}
 
 -- ---- the events left
 
@@ -82,13 +79,18 @@ module _ (script : List ℕ) (count : ℕ) where
 
 -- ---- samples in a row are the plain machine's
 
-module _ (bundle curves : List ℕ) (lent : judgeLentOf bundle curves ≡ Done) where
+module _ (lent : Lent) (ready : judgeLentOf lent ≡ Done) where
   abbrev play : State → List Event → Ran
-  play s es = playOf bundle curves s es
+  play s es = playOf lent s es
 
   -- on what is worked out from the state
   abbrev rowAt : State → IntegratorState → List Event → Samples
-  rowAt s i es = rowOf bundle curves (freshTopologyOf s) (controlsOf bundle s) (s .registers .mode) i es
+  rowAt s i es = rowOf lent (freshTopologyOf s) (controlsOf (lent .bundle) s) (s .registers .mode) i es
+
+  abbrev freshSample : State → Float → Float → Sampled
+  freshSample s sum energy =
+      let t = freshTopologyOf s in
+      filterSampleOf (lent .bundle) (lent .curves) (summerSlotOf t) t (controlsOf (lent .bundle) s) (s .registers .mode) (s .integrator) sum energy
 
   abbrev freshRow : State → List Event → Samples
   freshRow s es = rowAt s (s .integrator) es
@@ -105,14 +107,14 @@ module _ (bundle curves : List ℕ) (lent : judgeLentOf bundle curves ≡ Done) 
 
   pub record RowLaw (s : State) (es : List Event) (w : Samples) : Type 0 where
     pub same : play s es ≡ rowThen s w (play (resumed s w) (drop (w .events) es))
-    pub good : Good bundle curves (resumed s w)
+    pub good : Good lent (resumed s w)
     pub within : w .events ≤ length es
     pub equal : w .events ≡ length (w .outputs)
     pub rest : samplesOf es ≡ length (w .outputs) + samplesOf (drop (w .events) es)
     -- where it is not refused, no sample is next
     pub ends : (e : Event) (fs : List Event) → isDoneOf (w .answer) ≡ true → drop (w .events) es ≡ e ∷ fs → askedOf e .sample ≡ false
 
-  module _ (s : State) (good : Good bundle curves s) where
+  module _ (s : State) (good : Good lent s) where
     quiet-row : (es : List Event) → ((e : Event) (fs : List Event) → es ≡ e ∷ fs → askedOf e .sample ≡ false) → RowLaw s es (noSamples Done (s .integrator))
     quiet-row es h =
         record {
@@ -124,7 +126,7 @@ module _ (bundle curves : List ℕ) (lent : judgeLentOf bundle curves ≡ Done) 
           ends = λ e fs d p. h e fs p;
         }
 
-    refused-row : (e : Event) (es : List Event) (answer : Answer) → isDoneOf answer ≡ false → plainStep bundle curves s e .answer ≡ answer → RowLaw s (e ∷ es) (noSamples answer (s .integrator))
+    refused-row : (e : Event) (es : List Event) (answer : Answer) → isDoneOf answer ≡ false → plainStep lent s e .answer ≡ answer → RowLaw s (e ∷ es) (noSamples answer (s .integrator))
     unfolding playOf
     refused-row e es answer off is =
         record {
@@ -136,7 +138,7 @@ module _ (bundle curves : List ℕ) (lent : judgeLentOf bundle curves ≡ Done) 
           ends = λ f fs d p. absurd (true≢false (sym d ∙ off));
         }
 
-    taken-row : (sum energy : _) (es : List Event) (o : Outputs) (j : IntegratorState) → plainStep bundle curves s (Sample sum energy) ≡ record { answer = Done; sample = o ∷ []; state = withIntegrator s j }
+    taken-row : (sum energy : _) (es : List Event) (o : Outputs) (j : IntegratorState) → plainStep lent s (Sample sum energy) ≡ record { answer = Done; sample = o ∷ []; state = withIntegrator s j }
         → (w : Samples) → RowLaw (withIntegrator s j) es w → RowLaw s (Sample sum energy ∷ es) (oneMore o w)
     unfolding playOf samplesOf
     taken-row sum energy es o j is w law =
@@ -152,8 +154,10 @@ module _ (bundle curves : List ℕ) (lent : judgeLentOf bundle curves ≡ Done) 
       where
         on : (d : Bool) (r : Ran)
             → went (record { answer = Done; sample = o ∷ []; state = withIntegrator s j })
-            (cond d (record { answer = r .answer; events = w .events + r .events; samples = w .outputs ++ r .samples; state = r .state }) (record { answer = w .answer; events = w .events; samples = w .outputs; state = resumed s w }))
-            ≡ cond d (record { answer = r .answer; events = suc (w .events) + r .events; samples = (o ∷ w .outputs) ++ r .samples; state = r .state }) (record { answer = w .answer; events = suc (w .events); samples = o ∷ w .outputs; state = resumed s w })
+            (cond d (record { answer = r .answer; events = w .events + r .events; samples = w .outputs ++ r .samples; state = r .state })
+            (record { answer = w .answer; events = w .events; samples = w .outputs; state = resumed s w }))
+            ≡ cond d (record { answer = r .answer; events = suc (w .events) + r .events; samples = (o ∷ w .outputs) ++ r .samples; state = r .state })
+            (record { answer = w .answer; events = suc (w .events); samples = o ∷ w .outputs; state = resumed s w })
         on true r = let k : suc (w .events + r .events) ≡ suc (w .events) + r .events = omega arith in rw k refl
         on false r = refl
 
@@ -170,7 +174,7 @@ module _ (bundle curves : List ℕ) (lent : judgeLentOf bundle curves ≡ Done) 
       go true n = absurd (true≢false (sym n))
       go false n = refl
 
-  pub row-law : (s : State) (es : List Event) → Good bundle curves s → RowLaw s es (freshRow s es)
+  pub row-law : (s : State) (es : List Event) → Good lent s → RowLaw s es (freshRow s es)
   unfolding rowOf
   row-law s [] good = quiet-row s good [] (λ e fs p. cc)
   row-law s (CutoffLow v ∷ es) good = quiet-row s good (CutoffLow v ∷ es) (λ e fs p. cc)
@@ -179,151 +183,152 @@ module _ (bundle curves : List ℕ) (lent : judgeLentOf bundle curves ≡ Done) 
   row-law s (Mode v ∷ es) good = quiet-row s good (Mode v ∷ es) (λ e fs p. cc)
   row-law s (Reset ∷ es) good = quiet-row s good (Reset ∷ es) (λ e fs p. cc)
   row-law s (Sample sum energy ∷ es) good =
-      go (filterSampleOf bundle curves (summerSlotOf (freshTopologyOf s)) (freshTopologyOf s) (controlsOf bundle s) (s .registers .mode) (s .integrator) sum energy) refl (λ t. row-law t es)
+      go (freshSample s sum energy) refl (λ t. row-law t es)
     where
-      plain : (x : Sampled) → filterSampleOf bundle curves (summerSlotOf (freshTopologyOf s)) (freshTopologyOf s) (controlsOf bundle s) (s .registers .mode) (s .integrator) sum energy ≡ x → plainStep bundle curves s (Sample sum energy) ≡ plainTaken s x
-      plain x h = sym (sample-plain bundle curves s sum energy lent (good .valid) (good .judged)) ∙ ap (plainTaken s) h
+      plain : (x : Sampled) → freshSample s sum energy ≡ x → plainStep lent s (Sample sum energy) ≡ plainTaken s x
+      plain x h = sym (sample-plain lent s (good .valid) (good .judged) sum energy) ∙ ap (plainTaken s) h
 
-      go : (x : Sampled) → filterSampleOf bundle curves (summerSlotOf (freshTopologyOf s)) (freshTopologyOf s) (controlsOf bundle s) (s .registers .mode) (s .integrator) sum energy ≡ x
-          → ((t : State) → Good bundle curves t → RowLaw t es (freshRow t es))
+      go : (x : Sampled) → freshSample s sum energy ≡ x
+          → ((t : State) → Good lent t → RowLaw t es (freshRow t es))
           → RowLaw s (Sample sum energy ∷ es) (rowOn (λ j. rowAt s j es) (s .integrator) x)
       go (Taken o j) h on =
           let p = plain (Taken o j) h in
-          let g : Good bundle curves (withIntegrator s j) = subst (λ (x : Plain). Good bundle curves (x .state)) p (good-step bundle curves lent s (Sample sum energy) good) in
+          let g : Good lent (withIntegrator s j) = subst (λ (x : Plain). Good lent (x .state)) p (good-step lent ready s (Sample sum energy) good) in
           taken-row s good sum energy es o j p (rowAt s j es) (moved s j es (on (withIntegrator s j) g))
-      go (Refused answer) h on = refused-row s good (Sample sum energy) es answer (off _ answer (sample-refuses bundle curves (summerSlotOf (freshTopologyOf s)) (freshTopologyOf s) (controlsOf bundle s) (s .registers .mode) (s .integrator) sum energy) h) (ap (λ (x : Plain). x .answer) (plain (Refused answer) h))
+      go (Refused answer) h on =
+          refused-row s good (Sample sum energy) es answer (off _ answer (sample-refuses (lent .bundle) (lent .curves) _ _ _ _ (s .integrator) sum energy) h)
+          (ap (λ (x : Plain). x .answer) (plain (Refused answer) h))
 
 -- ---- samples that an event gives
 
-change-quiet : (bundle : List ℕ) (s t : State) → plainChange bundle s t .sample ≡ []
-change-quiet bundle s t = go (isDoneOf (judgeControlsOf bundle t))
+change-quiet : (lent : Lent) (s t : State) → plainChange lent s t .sample ≡ []
+change-quiet lent s t = go (isDoneOf (judgeControlsOf (lent .bundle) t))
   where
-    go : (d : Bool) → _≡_ {A = List Outputs} (cond d (record { answer = Done; sample = []; state = t }) (refusedAt s (judgeControlsOf bundle t)) .sample) []
+    go : (d : Bool) → _≡_ {A = List Outputs} (cond d (record { answer = Done; sample = []; state = t }) (refusedAt s (judgeControlsOf (lent .bundle) t)) .sample) []
     go true = refl
     go false = refl
 
-no-sample : (bundle curves : List ℕ) (s : State) (e : Event) → askedOf e .sample ≡ false → plainStep bundle curves s e .sample ≡ []
-no-sample bundle curves s (CutoffLow v) h = change-quiet bundle s (writeCutoffLowOf s v)
-no-sample bundle curves s (CutoffHigh v) h = change-quiet bundle s (writeCutoffHighOf s v)
-no-sample bundle curves s (Routing v) h = change-quiet bundle s (writeSignalRoutingOf s v)
-no-sample bundle curves s (Mode v) h = change-quiet bundle s (writeModeAndVolumeOf s v)
-no-sample bundle curves s (Sample sum energy) h = absurd (true≢false h)
-no-sample bundle curves s Reset h = change-quiet bundle s startingState
+no-sample : (lent : Lent) (s : State) (e : Event) → askedOf e .sample ≡ false → plainStep lent s e .sample ≡ []
+no-sample lent s (CutoffLow v) h = change-quiet lent s (writeCutoffLowOf s v)
+no-sample lent s (CutoffHigh v) h = change-quiet lent s (writeCutoffHighOf s v)
+no-sample lent s (Routing v) h = change-quiet lent s (writeSignalRoutingOf s v)
+no-sample lent s (Mode v) h = change-quiet lent s (writeModeAndVolumeOf s v)
+no-sample lent s (Sample sum energy) h = absurd (true≢false h)
+no-sample lent s Reset h = change-quiet lent s startingState
 
 sample-few : (s : State) (d : Bool) (x : Sampled) (a : Answer) → length (cond d (plainTaken s x) (refusedAt s a) .sample) ≤ 1
 sample-few s true (Taken o j) a = omega arith
 sample-few s true (Refused b) a = omega arith
 sample-few s false x a = omega arith
 
-step-few : (bundle curves : List ℕ) (s : State) (e : Event) → length (plainStep bundle curves s e .sample) ≤ S.sampleCountOf e
+step-few : (lent : Lent) (s : State) (e : Event) → length (plainStep lent s e .sample) ≤ sampleCountOf e
 unfolding plainSample
-step-few bundle curves s (Sample sum energy) =
-    let topology = freshTopologyOf s in
-    let judged = firstOf (unlessOf (finite sum && finite energy) InputNotFinite) (firstOf (unlessOf (leb (topology .«mixer_input_count») 7) MixerInputs) (judgeControlsOf bundle s)) in
-    sample-few s (isDoneOf judged) (filterSampleOf bundle curves (summerSlotOf topology) topology (controlsOf bundle s) (s .registers .mode) (s .integrator) sum energy) judged
-step-few bundle curves s (CutoffLow v) = rw (no-sample bundle curves s (CutoffLow v) refl) (omega arith)
-step-few bundle curves s (CutoffHigh v) = rw (no-sample bundle curves s (CutoffHigh v) refl) (omega arith)
-step-few bundle curves s (Routing v) = rw (no-sample bundle curves s (Routing v) refl) (omega arith)
-step-few bundle curves s (Mode v) = rw (no-sample bundle curves s (Mode v) refl) (omega arith)
-step-few bundle curves s Reset = rw (no-sample bundle curves s Reset refl) (omega arith)
+step-few lent s (Sample sum energy) =
+    let judged = judgePlain lent s sum energy in
+    sample-few s (isDoneOf judged) (plainSampled lent s sum energy) judged
+step-few lent s (CutoffLow v) = rw (no-sample lent s (CutoffLow v) refl) (omega arith)
+step-few lent s (CutoffHigh v) = rw (no-sample lent s (CutoffHigh v) refl) (omega arith)
+step-few lent s (Routing v) = rw (no-sample lent s (Routing v) refl) (omega arith)
+step-few lent s (Mode v) = rw (no-sample lent s (Mode v) refl) (omega arith)
+step-few lent s Reset = rw (no-sample lent s Reset refl) (omega arith)
 
-pub played-few : (bundle curves : List ℕ) (s : State) (es : List Event) → length (playOf bundle curves s es .samples) ≤ samplesOf es
+pub played-few : (lent : Lent) (s : State) (es : List Event) → length (playOf lent s es .samples) ≤ samplesOf es
 unfolding playOf samplesOf
-played-few bundle curves s [] = omega arith
-played-few bundle curves s (e ∷ es) = go (isDoneOf (plainStep bundle curves s e .answer)) (played-few bundle curves (plainStep bundle curves s e .state) es)
+played-few lent s [] = omega arith
+played-few lent s (e ∷ es) = go (isDoneOf (plainStep lent s e .answer)) (played-few lent (plainStep lent s e .state) es)
   where
-    go : (d : Bool) → length (playOf bundle curves (plainStep bundle curves s e .state) es .samples) ≤ samplesOf es
-        → length (cond d (went (plainStep bundle curves s e) (playOf bundle curves (plainStep bundle curves s e .state) es)) (stopped (plainStep bundle curves s e .answer) s) .samples) ≤ S.sampleCountOf e + samplesOf es
+    go : (d : Bool) → length (playOf lent (plainStep lent s e .state) es .samples) ≤ samplesOf es
+        → length (cond d (went (plainStep lent s e) (playOf lent (plainStep lent s e .state) es)) (stopped (plainStep lent s e .answer) s) .samples) ≤ sampleCountOf e + samplesOf es
     go true h =
-        let p = plainStep bundle curves s e in
-        let r = playOf bundle curves (p .state) es in
+        let p = plainStep lent s e in
+        let r = playOf lent (p .state) es in
         let l = length-append (p .sample) (r .samples) in
-        let f = step-few bundle curves s e in
+        let f = step-few lent s e in
         omega arith
     go false h = omega arith
 
--- ---- samples on the parts that are kept
+-- ---- samples on the parts that they share
 
-row-same-samples : (bundle curves : List ℕ) (t : MixingTopology) (c d : ControlCache) (mode : ℕ)
-    → ((j : IntegratorState) (sum energy : Float) → filterSampleOf bundle curves (summerSlotOf t) t c mode j sum energy ≡ filterSampleOf bundle curves (summerSlotOf t) t d mode j sum energy)
-    → (i : IntegratorState) (es : List Event) → rowOf bundle curves t c mode i es ≡ rowOf bundle curves t d mode i es
+row-same-samples : (lent : Lent) (t : MixingTopology) (c d : ControlCache) (mode : ℕ)
+    →
+    ((j : IntegratorState) (sum energy : Float) → filterSampleOf (lent .bundle) (lent .curves) (summerSlotOf t) t c mode j sum energy ≡ filterSampleOf (lent .bundle)
+    (lent .curves) (summerSlotOf t) t d mode j sum energy)
+    → (i : IntegratorState) (es : List Event) → rowOf lent t c mode i es ≡ rowOf lent t d mode i es
 unfolding rowOf
-row-same-samples bundle curves t c d mode same i [] = refl
-row-same-samples bundle curves t c d mode same i (e ∷ es) =
+row-same-samples lent t c d mode same i [] = refl
+row-same-samples lent t c d mode same i (e ∷ es) =
     let x = askedOf e .«input_sum» in
     let y = askedOf e .«source_energy» in
-    ap (λ (z : Sampled). cond (askedOf e .sample) (rowOn (λ j. rowOf bundle curves t c mode j es) i z) (noSamples Done i)) (same i x y)
-    ∙ ap (λ (z : Samples). cond (askedOf e .sample) z (noSamples Done i)) (on (filterSampleOf bundle curves (summerSlotOf t) t d mode i x y) (λ j. row-same-samples bundle curves t c d mode same j es))
+    ap (λ (z : Sampled). cond (askedOf e .sample) (rowOn (λ j. rowOf lent t c mode j es) i z) (noSamples Done i)) (same i x y)
+    ∙ ap (λ (z : Samples). cond (askedOf e .sample) z (noSamples Done i))
+    (on (filterSampleOf (lent .bundle) (lent .curves) (summerSlotOf t) t d mode i x y) (λ j. row-same-samples lent t c d mode same j es))
   where
-    on : (z : Sampled) → ((j : IntegratorState) → rowOf bundle curves t c mode j es ≡ rowOf bundle curves t d mode j es)
-        → rowOn (λ j. rowOf bundle curves t c mode j es) i z ≡ rowOn (λ j. rowOf bundle curves t d mode j es) i z
+    on : (z : Sampled) → ((j : IntegratorState) → rowOf lent t c mode j es ≡ rowOf lent t d mode j es)
+        → rowOn (λ j. rowOf lent t c mode j es) i z ≡ rowOn (λ j. rowOf lent t d mode j es) i z
     on (Taken o j) later = ap (oneMore o) (later j)
     on (Refused answer) later = refl
 
-gain-good : (bundle curves : List ℕ) (s : State) → Good bundle curves s → gainValue (stateGain bundle s) ≡ refreshModeOutputGainOf bundle (s .registers) (effectiveCutoffOf s)
-unfolding readOf
-gain-good bundle curves s good =
-    let r = valid-ranges s (good .valid) .resonance in
-    let f = judgeFilterOf bundle (effectiveCutoffOf s) (s .registers .resonance) in
-    let g = judgeGainOf bundle (s .registers) (effectiveCutoffOf s) in
-    let judged : g ≡ Done = first-done f g (sym (judged-by-parts bundle s (omega arith)) ∙ good .judged) .1 in
-    rw judged refl
+small : (s : State) → validOf s ≡ true → s .registers .resonance < 256
+small s v = let r = valid-ranges s v .resonance in omega arith
 
-parts-sample : (bundle curves : List ℕ) (s : State) → Good bundle curves s → (j : IntegratorState) (sum energy : Float)
-    → filterSampleOf bundle curves (summerSlotOf (freshTopologyOf s)) (freshTopologyOf s) (cacheOfParts (partsOf bundle s)) (s .registers .mode) j sum energy ≡ filterSampleOf bundle curves (summerSlotOf (freshTopologyOf s)) (freshTopologyOf s) (controlsOf bundle s) (s .registers .mode) j sum energy
+parts-sample : (lent : Lent) (s : State) → Good lent s → (j : IntegratorState) (sum energy : Float)
+    → filterSampleOf (lent .bundle) (lent .curves) (summerSlotOf (freshTopologyOf s)) (freshTopologyOf s) (cacheOfParts (partsOf (lent .bundle) s)) (s .registers .mode) j sum energy
+    ≡ filterSampleOf (lent .bundle) (lent .curves) (summerSlotOf (freshTopologyOf s)) (freshTopologyOf s) (controlsOf (lent .bundle) s) (s .registers .mode) j sum energy
 unfolding partsOf controlsOf refreshFilterControlsOf
-parts-sample bundle curves s good j sum energy =
-    sym (kept-is-sample bundle curves (summerSlotOf (freshTopologyOf s)) (freshTopologyOf s) (cacheOfParts (partsOf bundle s)) (s .registers .mode) j sum energy)
-    ∙ rw (gain-good bundle curves s good) (kept-is-sample bundle curves (summerSlotOf (freshTopologyOf s)) (freshTopologyOf s) (controlsOf bundle s) (s .registers .mode) j sum energy)
+parts-sample lent s good j sum energy =
+    sym (parts-are-sample (lent .bundle) (lent .curves) (summerSlotOf (freshTopologyOf s)) (freshTopologyOf s) (cacheOfParts (partsOf (lent .bundle) s)) (s .registers .mode) j sum energy)
+    ∙ rw (state-gain (lent .bundle) s (small s (good .valid)) (ap isDoneOf (good .judged)))
+    (parts-are-sample (lent .bundle) (lent .curves) (summerSlotOf (freshTopologyOf s)) (freshTopologyOf s) (controlsOf (lent .bundle) s) (s .registers .mode) j sum energy)
 
 -- ---- the loop
 
-module _ (bundle curves script : List ℕ) (count : ℕ) (s₀ : State) (out₀ : List ℕ) where
+module _ (lent : Lent) (script : List ℕ) (count : ℕ) (s₀ : State) (out₀ : List ℕ) where
   abbrev remaining : ℕ → List Event
   remaining i = eventsIn (slicesFrom script count i)
 
   abbrev whole : Ran
-  whole = playOf bundle curves s₀ (remaining 0)
+  whole = playOf lent s₀ (remaining 0)
 
   -- before event i: what is left of the run, put after what is done, is the whole run
   pub record Sofar (out : List ℕ) (s : State) (samples i : ℕ) : Type 0 where
     pub within : i ≤ count
     pub few : samples ≤ i
     pub readable : allReadable (slicesFrom script count i) ≡ true
-    pub good : Good bundle curves s
+    pub good : Good lent s
     pub long : length out ≡ length out₀
     pub room : 16 * (samples + samplesOf (remaining i)) ≤ length out
-    pub ends : playEnd i samples (playOf bundle curves s (remaining i)) ≡ playEnd 0 0 whole
-    pub puts : putAt out (16 * samples) (sampleBytes (playOf bundle curves s (remaining i) .samples)) ≡ putAt out₀ 0 (sampleBytes (whole .samples))
+    pub ends : playEnd i samples (playOf lent s (remaining i)) ≡ playEnd 0 0 whole
+    pub puts : putAt out (16 * samples) (sampleBytes (playOf lent s (remaining i) .samples)) ≡ putAt out₀ 0 (sampleBytes (whole .samples))
 
   abbrev Finished : Answer → ℕ → ℕ → State → List ℕ → Type 0
   Finished answer i samples s out = (_≡_ {A = Played} (record { answer = answer; events = i; samples = samples; state = s }) (playEnd 0 0 whole)) × (out ≡ putAt out₀ 0 (sampleBytes (whole .samples)))
 
   -- a run that ends here
-  finishes : (answer : Answer) (i samples : ℕ) (s : State) (out : List ℕ) (r : Ran) → r ≡ stopped answer s → playEnd i samples r ≡ playEnd 0 0 whole → putAt out (16 * samples) (sampleBytes (r .samples)) ≡ putAt out₀ 0 (sampleBytes (whole .samples)) → Finished answer i samples s out
+  finishes : (answer : Answer) (i samples : ℕ) (s : State) (out : List ℕ) (r : Ran) → r ≡ stopped answer s → playEnd i samples r ≡ playEnd 0 0 whole
+      → putAt out (16 * samples) (sampleBytes (r .samples)) ≡ putAt out₀ 0 (sampleBytes (whole .samples)) → Finished answer i samples s out
   unfolding sampleBytes
   finishes answer i samples s out r h ends puts = (
     sym (ap (playEnd i samples) h ∙ rw (add-zero i, add-zero samples) refl) ∙ ends,
     sym (ap (λ (x : Ran). putAt out (16 * samples) (sampleBytes (x .samples))) h ∙ putAt-nil out (16 * samples)) ∙ puts,
   )
 
-  pub sofar-start : Good bundle curves s₀ → allReadable (slicesFrom script count 0) ≡ true → 16 * samplesOf (remaining 0) ≤ length out₀ → Sofar out₀ s₀ 0 0
+  pub sofar-start : Good lent s₀ → allReadable (slicesFrom script count 0) ≡ true → 16 * samplesOf (remaining 0) ≤ length out₀ → Sofar out₀ s₀ 0 0
   sofar-start g r m = record { within = omega arith; few = omega arith; readable = r; good = g; long = refl; room = omega arith; ends = refl; puts = refl }
 
-  module _ (lent : judgeLentOf bundle curves ≡ Done) (out : List ℕ) (s : State) (samples i : ℕ) (far : Sofar out s samples i) where
+  module _ (ready : judgeLentOf lent ≡ Done) (out : List ℕ) (s : State) (samples i : ℕ) (far : Sofar out s samples i) where
     pub at-end : count ≤ i → Finished Done i samples s out
     unfolding playOf
-    at-end h = finishes Done i samples s out (playOf bundle curves s (remaining i)) (ap (playOf bundle curves s) (events-end script count i h)) (far .ends) (far .puts)
+    at-end h = finishes Done i samples s out (playOf lent s (remaining i)) (ap (playOf lent s) (events-end script count i h)) (far .ends) (far .puts)
 
     -- the samples in a row from here
     abbrev row : Samples
-    row = freshRow bundle curves lent s (remaining i)
+    row = freshRow lent ready s (remaining i)
 
     abbrev rowBytes : List ℕ
     rowBytes = sampleBytes (row .outputs)
 
-    law : RowLaw bundle curves lent s (remaining i) row
-    law = row-law bundle curves lent s (remaining i) (far .good)
+    law : RowLaw lent ready s (remaining i) row
+    law = row-law lent ready s (remaining i) (far .good)
 
     row-within : i + row .events ≤ count
     row-within =
@@ -337,16 +342,16 @@ module _ (bundle curves script : List ℕ) (count : ℕ) (s₀ : State) (out₀ 
 
     module _ (d : isDoneOf (row .answer) ≡ true) where
       abbrev then : Ran
-      then = playOf bundle curves (withIntegrator s (row .integrator)) (remaining (i + row .events))
+      then = playOf lent (withIntegrator s (row .integrator)) (remaining (i + row .events))
 
-      row-same : playOf bundle curves s (remaining i) ≡ record { answer = then .answer; events = row .events + then .events; samples = row .outputs ++ then .samples; state = then .state }
-      row-same = law .same ∙ ap (λ (es : List Event). rowThen bundle curves lent s row (playOf bundle curves (withIntegrator s (row .integrator)) es)) (on .1) ∙ rw d refl
+      row-same : playOf lent s (remaining i) ≡ record { answer = then .answer; events = row .events + then .events; samples = row .outputs ++ then .samples; state = then .state }
+      row-same = law .same ∙ ap (λ (es : List Event). rowThen lent ready s row (playOf lent (withIntegrator s (row .integrator)) es)) (on .1) ∙ rw d refl
 
       pub row-done : Sofar (putAt out (16 * samples) rowBytes) (withIntegrator s (row .integrator)) (samples + length (row .outputs)) (i + row .events)
       row-done =
           let n = length-outputs (row .outputs) in
           let m = length-outputs (then .samples) in
-          let fewer = played-few bundle curves (withIntegrator s (row .integrator)) (remaining (i + row .events)) in
+          let fewer = played-few lent (withIntegrator s (row .integrator)) (remaining (i + row .events)) in
           let rest : samplesOf (remaining i) ≡ length (row .outputs) + samplesOf (remaining (i + row .events)) = law .rest ∙ ap (λ (es : List Event). length (row .outputs) + samplesOf es) (on .1) in
           let room = far .room in
           let few = far .few in
@@ -377,17 +382,18 @@ module _ (bundle curves script : List ℕ) (count : ℕ) (s₀ : State) (out₀ 
           law .ends e (remaining (i + row .events + 1)) d
           (on .1 ∙ events-next script count (i + row .events) more e is)
 
-    pub row-stopped : isDoneOf (row .answer) ≡ false → Finished (row .answer) (i + row .events) (samples + length (row .outputs)) (withIntegrator s (row .integrator)) (putAt out (16 * samples) rowBytes)
+    pub row-stopped : isDoneOf (row .answer) ≡ false
+        → Finished (row .answer) (i + row .events) (samples + length (row .outputs)) (withIntegrator s (row .integrator)) (putAt out (16 * samples) rowBytes)
     row-stopped d =
-        let is : playOf bundle curves s (remaining i) ≡ record { answer = row .answer; events = row .events; samples = row .outputs; state = withIntegrator s (row .integrator) } = law .same ∙ rw d refl in
+        let is : playOf lent s (remaining i) ≡ record { answer = row .answer; events = row .events; samples = row .outputs; state = withIntegrator s (row .integrator) } = law .same ∙ rw d refl in
         (sym (ap (playEnd i samples) is) ∙ far .ends, sym (ap (λ (r : Ran). putAt out (16 * samples) (sampleBytes (r .samples))) is) ∙ far .puts)
 
     -- the other events in a row from here
     abbrev moves : Moves
-    moves = movesOf bundle s (remaining i)
+    moves = movesOf (lent .bundle) s (remaining i)
 
-    moves-are : MovesLaw bundle curves lent s (remaining i) moves
-    moves-are = moves-law bundle curves lent s (remaining i) (far .good)
+    moves-are : MovesLaw lent ready s (remaining i) moves
+    moves-are = moves-law lent ready s (remaining i) (far .good)
 
     moves-within : i + moves .events ≤ count
     moves-within =
@@ -401,8 +407,8 @@ module _ (bundle curves script : List ℕ) (count : ℕ) (s₀ : State) (out₀ 
 
     pub moves-done : isDoneOf (moves .answer) ≡ true → Sofar out (moves .state) samples (i + moves .events)
     moves-done d =
-        let r = playOf bundle curves (moves .state) (remaining (i + moves .events)) in
-        let same : playOf bundle curves s (remaining i) ≡ record { answer = r .answer; events = moves .events + r .events; samples = r .samples; state = r .state } = moves-are .same ∙ rw (d, onward .1) refl in
+        let r = playOf lent (moves .state) (remaining (i + moves .events)) in
+        let same : playOf lent s (remaining i) ≡ record { answer = r .answer; events = moves .events + r .events; samples = r .samples; state = r .state } = moves-are .same ∙ rw (d, onward .1) refl in
         let few = far .few in
         let room = far .room in
         let counts : samplesOf (remaining i) ≡ samplesOf (remaining (i + moves .events)) = moves-are .rest ∙ ap samplesOf (onward .1) in
@@ -421,7 +427,7 @@ module _ (bundle curves script : List ℕ) (count : ℕ) (s₀ : State) (out₀ 
     pub moves-stopped : isDoneOf (moves .answer) ≡ false → Finished (moves .answer) (i + moves .events) samples (moves .state) out
     unfolding sampleBytes
     moves-stopped d =
-        let is : playOf bundle curves s (remaining i) ≡ record { answer = moves .answer; events = moves .events; samples = []; state = moves .state } = moves-are .same ∙ rw d refl in (
+        let is : playOf lent s (remaining i) ≡ record { answer = moves .answer; events = moves .events; samples = []; state = moves .state } = moves-are .same ∙ rw d refl in (
           sym (ap (playEnd i samples) is ∙ rw (add-zero samples) refl) ∙ far .ends,
           sym (ap (λ (r : Ran). putAt out (16 * samples) (sampleBytes (r .samples))) is ∙ putAt-nil out (16 * samples)) ∙ far .puts,
         )
@@ -431,20 +437,21 @@ module _ (bundle curves script : List ℕ) (count : ℕ) (s₀ : State) (out₀ 
 
   -- ---- as the code has it
 
-  module _ (lent : judgeLentOf bundle curves ≡ Done) (out : List ℕ) (s : State) (samples i : ℕ) (far : Sofar out s samples i) where
-    abbrev keptRow : Samples
-    keptRow = keptRowOf bundle curves s (remaining i)
+  module _ (ready : judgeLentOf lent ≡ Done) (out : List ℕ) (s : State) (samples i : ℕ) (far : Sofar out s samples i) where
+    abbrev shared : Samples
+    shared = samplesFrom lent s script count i
 
-    row-fresh : keptRow ≡ row lent out s samples i far
+    row-fresh : shared ≡ row ready out s samples i far
     unfolding partsOf
     row-fresh =
-        row-same-samples bundle curves (freshTopologyOf s) (cacheOfParts (partsOf bundle s)) (controlsOf bundle s) (s .registers .mode)
-        (λ j sum energy. parts-sample bundle curves s (far .good) j sum energy) (s .integrator) (remaining i)
+        row-same-samples lent (freshTopologyOf s) (cacheOfParts (partsOf (lent .bundle) s)) (controlsOf (lent .bundle) s) (s .registers .mode)
+        (λ j sum energy. parts-sample lent s (far .good) j sum energy) (s .integrator) (remaining i)
 
     -- a row of samples
-    module _ {r : Row} (is-row : r ≡ rowEnd i samples keptRow) {after : List ℕ} (is-after : after ≡ putAt out (16 * samples) (sampleBytes (keptRow .outputs))) {d : Bool} (is-d : d ≡ isDoneOf (r .answer)) where
+    module _ {r : Row} (is-row : r ≡ rowEnd i samples shared) {after : List ℕ} (is-after : after ≡ putAt out (16 * samples) (sampleBytes (shared .outputs))) {d : Bool}
+        (is-d : d ≡ isDoneOf (r .answer)) where
       abbrev w : Samples
-      w = row lent out s samples i far
+      w = row ready out s samples i far
 
       r-is : r ≡ rowEnd i samples w
       r-is = is-row ∙ ap (rowEnd i samples) row-fresh
@@ -456,10 +463,10 @@ module _ (bundle curves script : List ℕ) (count : ℕ) (s₀ : State) (out₀ 
       d-is b h = ap (λ (x : Row). isDoneOf (x .answer)) (sym r-is) ∙ sym is-d ∙ h
 
       pub row-goes : d ≡ true → Sofar after (withIntegrator s (r .integrator)) (r .samples) (r .events)
-      row-goes h = rw (r-is, after-is) (row-done lent out s samples i far (d-is true h))
+      row-goes h = rw (r-is, after-is) (row-done ready out s samples i far (d-is true h))
 
       pub row-stops : d ≡ false → Finished (r .answer) (r .events) (r .samples) (withIntegrator s (r .integrator)) after
-      row-stops h = rw (r-is, after-is) (row-stopped lent out s samples i far (d-is false h))
+      row-stops h = rw (r-is, after-is) (row-stopped ready out s samples i far (d-is false h))
 
       -- it has one sample at least
       pub row-moves : i < count → (e : Event) → eventAt script (8 + 12 * i) ≡ Readable e → {ask : Asked} → ask ≡ askedOf e → ask .sample ≡ true → d ≡ true → i < r .events
@@ -468,34 +475,36 @@ module _ (bundle curves script : List ℕ) (count : ℕ) (s₀ : State) (out₀ 
           go : (n : ℕ) → w .events ≡ n → i < i + n
           go zero z =
               let here : drop (w .events) (remaining i) ≡ e ∷ remaining (i + 1) = ap (λ (n : ℕ). drop n (remaining i)) z ∙ events-next script count i more e at in
-              absurd (true≢false (sym wanted ∙ ap (λ (a : Asked). a .sample) asks ∙ law lent out s samples i far .ends e (remaining (i + 1)) (d-is true h) here))
+              absurd (true≢false (sym wanted ∙ ap (λ (a : Asked). a .sample) asks ∙ law ready out s samples i far .ends e (remaining (i + 1)) (d-is true h) here))
           go (suc n) z = omega arith
 
     -- a row of other events
-    module _ {m : Moved} (is-m : m ≡ movesEnd bundle i (movesOf bundle s (remaining i))) {d : Bool} (is-d : d ≡ isDoneOf (m .answer)) where
-      m-is : (b : Bool) → d ≡ b → isDoneOf (movesOf bundle s (remaining i) .answer) ≡ b
+    module _ {m : Moved} (is-m : m ≡ movesEnd (lent .bundle) i (movesOf (lent .bundle) s (remaining i))) {d : Bool} (is-d : d ≡ isDoneOf (m .answer)) where
+      m-is : (b : Bool) → d ≡ b → isDoneOf (movesOf (lent .bundle) s (remaining i) .answer) ≡ b
       m-is b h = ap (λ (x : Moved). isDoneOf (x .answer)) (sym is-m) ∙ sym is-d ∙ h
 
       pub moves-go : d ≡ true → Sofar out (m .state) samples (m .events)
-      moves-go h = rw is-m (moves-done lent out s samples i far (m-is true h))
+      moves-go h = rw is-m (moves-done ready out s samples i far (m-is true h))
 
       pub moves-stop : d ≡ false → Finished (m .answer) (m .events) samples (m .state) out
-      moves-stop h = rw is-m (moves-stopped lent out s samples i far (m-is false h))
+      moves-stop h = rw is-m (moves-stopped ready out s samples i far (m-is false h))
 
       -- it has one event at least
       pub moves-move : i < count → (e : Event) → eventAt script (8 + 12 * i) ≡ Readable e → {ask : Asked} → ask ≡ askedOf e → ask .sample ≡ false → d ≡ true → i < m .events
       moves-move more e at asks other h =
           let next = events-next script count i more e at in
-          let some = moves-some bundle curves lent s e (remaining (i + 1)) (ap (λ (a : Asked). a .sample) (sym asks) ∙ other) (ap (λ (es : List Event). isDoneOf (movesOf bundle s es .answer)) (sym next) ∙ m-is true h) in
-          let here = subst (λ (es : List Event). zero < movesOf bundle s es .events) (sym next) some in
+          let some = moves-some lent ready s e (remaining (i + 1)) (ap (λ (a : Asked). a .sample) (sym asks) ∙ other)
+          (ap (λ (es : List Event). isDoneOf (movesOf (lent .bundle) s es .answer)) (sym next) ∙ m-is true h) in
+          let here = subst (λ (es : List Event). zero < movesOf (lent .bundle) s es .events) (sym next) some in
           rw is-m (omega arith)
 
     pub unreadable : i < count → eventAt script (8 + 12 * i) ≡ Unreadable → ⊥
-    unreadable = readable-here lent out s samples i far
+    unreadable = readable-here ready out s samples i far
 
   -- ---- one turn: other events in a row, then samples in a row
 
-  module _ (lent : judgeLentOf bundle curves ≡ Done) (out : List ℕ) (s : State) (samples i : ℕ) (far : Sofar out s samples i) {m : Moved} (is-m : m ≡ movesEnd bundle i (movesOf bundle s (remaining i))) where
+  module _ (ready : judgeLentOf lent ≡ Done) (out : List ℕ) (s : State) (samples i : ℕ) (far : Sofar out s samples i) {m : Moved}
+      (is-m : m ≡ movesEnd (lent .bundle) i (movesOf (lent .bundle) s (remaining i))) where
     -- where the first row is empty, a sample comes
     first-empty : (e : Event) → askedOf e .sample ≡ true → remaining i ≡ e ∷ remaining (i + 1) → m .events ≡ i
     unfolding movesOf
@@ -503,7 +512,8 @@ module _ (bundle curves script : List ℕ) (count : ℕ) (s₀ : State) (out₀ 
 
     -- the two rows are not both empty
     pub turn-moves : i < count → {d : Bool} → d ≡ isDoneOf (m .answer) → d ≡ true → (then : Sofar out (m .state) samples (m .events))
-        → {r : Row} → r ≡ rowEnd (m .events) samples (keptRowOf bundle curves (m .state) (remaining (m .events))) → {after : List ℕ} → after ≡ putAt out (16 * samples) (sampleBytes (keptRowOf bundle curves (m .state) (remaining (m .events)) .outputs))
+        → {r : Row} → r ≡ rowEnd (m .events) samples (samplesFrom lent (m .state) script count (m .events)) → {after : List ℕ}
+        → after ≡ putAt out (16 * samples) (sampleBytes (samplesFrom lent (m .state) script count (m .events) .outputs))
         → {f : Bool} → f ≡ isDoneOf (r .answer) → f ≡ true → i < r .events
     turn-moves more is-d d then {r} is-r is-after is-f f = go (eventAt script (8 + 12 * i)) refl
       where
@@ -513,20 +523,20 @@ module _ (bundle curves script : List ℕ) (count : ℕ) (s₀ : State) (out₀ 
         sampled : (e : Event) → eventAt script (8 + 12 * i) ≡ Readable e → (b : Bool) → askedOf e .sample ≡ b → i < r .events
         sampled e at true a =
             let here : m .events ≡ i = first-empty e a (events-next script count i more e at) in
-            let moves = row-moves lent out (m .state) samples (m .events) then is-r is-after is-f (rw here more) e (rw here at) refl a f in
+            let moves = row-moves ready out (m .state) samples (m .events) then is-r is-after is-f (rw here more) e (rw here at) refl a f in
             omega arith
-        sampled e at false a = let moves = moves-move lent out s samples i far is-m is-d more e at refl a d in omega (arith, onto)
+        sampled e at false a = let moves = moves-move ready out s samples i far is-m is-d more e at refl a d in omega (arith, onto)
 
         go : (x : DecodedEvent) → eventAt script (8 + 12 * i) ≡ x → i < r .events
         go (Readable e) at = sampled e at (askedOf e .sample) refl
-        go Unreadable at = absurd (unreadable lent out s samples i far more at)
+        go Unreadable at = absurd (unreadable ready out s samples i far more at)
 
   -- ---- what the loop keeps beside: the mode's gain, and the summer's rest at the count that it was worked out for
 
   pub record Turn (out : List ℕ) (resting : Resting) (s : State) (gain : Float) (samples i : ℕ) : Type 0 where
     pub far : Sofar out s samples i
-    pub gained : gain ≡ gainValue (stateGain bundle s)
-    pub rested : resting ≡ restingOf bundle (resting .inputs)
+    pub gained : gain ≡ (stateGainOf (lent .bundle) s)
+    pub rested : resting ≡ restingOf (lent .bundle) (resting .inputs)
 
 pub rest-told : (bundle : List ℕ) {n : ℕ} {r : Resting} → r ≡ restingOf bundle n → r ≡ restingOf bundle (r .inputs)
 rest-told bundle {n} {r} h = h ∙ ap (restingOf bundle) (sym (ap (λ (x : Resting). x .inputs) h))
@@ -534,5 +544,5 @@ rest-told bundle {n} {r} h = h ∙ ap (restingOf bundle) (sym (ap (λ (x : Resti
 pub rest-here : (bundle : List ℕ) (s : State) {t : MixingTopology} {r : Resting} → r ≡ restingOf bundle (t .«filter_input_count») → t ≡ freshTopologyOf s → r .rest ≡ restOf bundle (freshTopologyOf s)
 rest-here bundle s h is = rw (h, is) refl
 
-pub moves-gain : (bundle : List ℕ) (i : ℕ) (w : Moves) {m : Moved} → m ≡ movesEnd bundle i w → m .gain ≡ gainValue (stateGain bundle (m .state))
+pub moves-gain : (bundle : List ℕ) (i : ℕ) (w : Moves) {m : Moved} → m ≡ movesEnd bundle i w → m .gain ≡ (stateGainOf bundle (m .state))
 moves-gain bundle i w h = rw h refl

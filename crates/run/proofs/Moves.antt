@@ -14,22 +14,22 @@ use Rattle.answers.proofs.Laws.{done-is}
 use Rattle.control.specs.declared.State.{State}
 use Rattle.control.specs.Block.{validOf}
 use Rattle.controls.specs.Judging.{judgeControlsOf}
+use Rattle.refresh.specs.declared.Judged.{Judged}
+use Rattle.refresh.specs.Refresh.{stateGainOf, judgedOf}
 use Rattle.script.specs.declared.Event.{Event}
 use Rattle.script.specs.declared.Event.the-variants.{CutoffLow, CutoffHigh, Routing, Mode, Sample, Reset}
 use Rattle.script.specs.declared.DecodedEvent.the-variants.{Readable, Unreadable}
-use Rattle.script.specs.Script as S
-use Rattle.script.specs.Script.{eventAt, allReadable, eventsIn, samplesOf}
+use Rattle.script.specs.Script.{eventAt, allReadable, eventsIn, sampleCountOf, samplesOf}
 use Rattle.script.proofs.Laws.{slicesFrom, all-next, events-next, all-stop, events-end}
-use Rattle.filter.specs.Core.{judgeLentOf}
+use Rattle.filter.specs.Lent.{Lent, judgeLentOf}
 use Rattle.filter.specs.Plain.{plainChange, plainStep}
 use Rattle.run.specs.declared.Asked.{Asked}
-use Rattle.run.specs.declared.Judged.{Judged}
 use Rattle.run.specs.declared.Moved.{Moved}
 use Rattle.run.specs.Run.{Ran, went, playOf}
 use Rattle.run.specs.Rows.{Moves, askedOf, nextOf, noMoves, oneMove, movesOf}
-use Rattle.run.specs.Parts.{gainValue, stateGain, judgedWith, movesEnd}
-use Rattle.run.proofs.Changes.{judged-is, next-valid, plain-is}
-use Rattle.run.proofs.Cutting.{Good}
+use Rattle.run.specs.Parts.{movesEnd}
+use Rattle.run.proofs.Changes.{next-valid, plain-is}
+use Rattle.run.proofs.Good.{Good}
 
 -- ---- the loop
 
@@ -45,10 +45,10 @@ module _ (bundle script : List ℕ) (count start : ℕ) (from : State) where
     pub within : i ≤ count
     pub readable : allReadable (slicesFrom script count i) ≡ true
     pub valid : validOf s ≡ true
-    pub gained : g ≡ gainValue (stateGain bundle s)
+    pub gained : g ≡ stateGainOf bundle s
     pub ends : movesEnd bundle i (moves s i) ≡ movesEnd bundle start (moves from start)
 
-  pub sofar-start : start ≤ count → validOf from ≡ true → allReadable (slicesFrom script count start) ≡ true → {g : Float} → g ≡ gainValue (stateGain bundle from) → Sofar from g start
+  pub sofar-start : start ≤ count → validOf from ≡ true → allReadable (slicesFrom script count start) ≡ true → {g : Float} → g ≡ stateGainOf bundle from → Sofar from g start
   sofar-start w v r g = record { within = w; readable = r; valid = v; gained = g; ends = refl }
 
   module _ (s : State) (g : Float) (i : ℕ) (far : Sofar s g i) where
@@ -77,9 +77,9 @@ module _ (bundle script : List ℕ) (count start : ℕ) (from : State) where
         unfolding movesOf
         sampled a = stops Done (ap (movesOf bundle s) next ∙ rw (asked-is true a) refl)
 
-        module _ (other : ask .sample ≡ false) {t : State} (is-t : t ≡ nextOf s e) {j : Judged} (is-j : j ≡ judgedWith bundle t) {d : Bool} (is-d : d ≡ isDoneOf (j .answer)) where
+        module _ (other : ask .sample ≡ false) {t : State} (is-t : t ≡ nextOf s e) {j : Judged} (is-j : j ≡ judgedOf bundle t) {d : Bool} (is-d : d ≡ isDoneOf (j .answer)) where
           answer-is : j .answer ≡ judgeControlsOf bundle (nextOf s e)
-          answer-is = ap (λ (x : Judged). x .answer) is-j ∙ rw is-t (judged-is bundle (nextOf s e) (next-valid s (far .valid) e))
+          answer-is = ap (λ (x : Judged). x .answer) is-j ∙ rw is-t refl
 
           judged-here : (b : Bool) → d ≡ b → isDoneOf (judgeControlsOf bundle (nextOf s e)) ≡ b
           judged-here b h = ap isDoneOf (sym answer-is) ∙ sym is-d ∙ h
@@ -106,7 +106,7 @@ module _ (bundle script : List ℕ) (count start : ℕ) (from : State) where
 -- ---- the row is the plain machine's
 
 -- no sample is passed over
-other-none : (e : Event) → askedOf e .sample ≡ false → S.sampleCountOf e ≡ 0
+other-none : (e : Event) → askedOf e .sample ≡ false → sampleCountOf e ≡ 0
 other-none (CutoffLow v) h = refl
 other-none (CutoffHigh v) h = refl
 other-none (Routing v) h = refl
@@ -114,7 +114,7 @@ other-none (Mode v) h = refl
 other-none (Sample sum energy) h = absurd (true≢false h)
 other-none Reset h = refl
 
-module _ (bundle curves : List ℕ) (lent : judgeLentOf bundle curves ≡ Done) where
+module _ (lent : Lent) (ready : judgeLentOf lent ≡ Done) where
   -- the row, and then the rest if it was not refused
   abbrev movesThen : Moves → Ran → Ran
   movesThen m r =
@@ -123,28 +123,28 @@ module _ (bundle curves : List ℕ) (lent : judgeLentOf bundle curves ≡ Done) 
       (record { answer = m .answer; events = m .events; samples = []; state = m .state })
 
   pub record MovesLaw (s : State) (es : List Event) (m : Moves) : Type 0 where
-    pub same : playOf bundle curves s es ≡ movesThen m (playOf bundle curves (m .state) (drop (m .events) es))
-    pub good : Good bundle curves (m .state)
+    pub same : playOf lent s es ≡ movesThen m (playOf lent (m .state) (drop (m .events) es))
+    pub good : Good lent (m .state)
     pub within : m .events ≤ length es
     pub rest : samplesOf es ≡ samplesOf (drop (m .events) es)
 
-  module _ (s : State) (good : Good bundle curves s) where
+  module _ (s : State) (good : Good lent s) where
     quiet : (es : List Event) → MovesLaw s es (noMoves Done s)
-    quiet es = record { same = rw (zero-add (playOf bundle curves s es .events)) refl; good = good; within = omega arith; rest = refl }
+    quiet es = record { same = rw (zero-add (playOf lent s es .events)) refl; good = good; within = omega arith; rest = refl }
 
     module _ (e : Event) (es : List Event) (other : askedOf e .sample ≡ false) where
-      plain : plainStep bundle curves s e ≡ plainChange bundle s (nextOf s e)
-      plain = plain-is bundle curves s e other
+      plain : plainStep lent s e ≡ plainChange lent s (nextOf s e)
+      plain = plain-is lent s e other
 
-      stop : isDoneOf (judgeControlsOf bundle (nextOf s e)) ≡ false → MovesLaw s (e ∷ es) (noMoves (judgeControlsOf bundle (nextOf s e)) s)
+      stop : isDoneOf (judgeControlsOf (lent .bundle) (nextOf s e)) ≡ false → MovesLaw s (e ∷ es) (noMoves (judgeControlsOf (lent .bundle) (nextOf s e)) s)
       unfolding playOf
       stop h = record { same = rw (plain, h, h) refl; good = good; within = omega arith; rest = refl }
 
-      more : isDoneOf (judgeControlsOf bundle (nextOf s e)) ≡ true → (m : Moves) → MovesLaw (nextOf s e) es m → MovesLaw s (e ∷ es) (oneMove m)
+      more : isDoneOf (judgeControlsOf (lent .bundle) (nextOf s e)) ≡ true → (m : Moves) → MovesLaw (nextOf s e) es m → MovesLaw s (e ∷ es) (oneMove m)
       unfolding playOf samplesOf
       more h m law =
           record {
-            same = rw (plain, h) (ap (went (record { answer = Done; sample = []; state = nextOf s e })) (law .same) ∙ on (isDoneOf (m .answer)) (playOf bundle curves (m .state) (drop (m .events) es)));
+            same = rw (plain, h) (ap (went (record { answer = Done; sample = []; state = nextOf s e })) (law .same) ∙ on (isDoneOf (m .answer)) (playOf lent (m .state) (drop (m .events) es)));
             good = law .good;
             within = omega (arith, law .within);
             rest = omega (arith, law .rest, other-none e other);
@@ -152,32 +152,36 @@ module _ (bundle curves : List ℕ) (lent : judgeLentOf bundle curves ≡ Done) 
         where
           on : (d : Bool) (r : Ran)
               → went (record { answer = Done; sample = []; state = nextOf s e })
-              (cond d (record { answer = r .answer; events = m .events + r .events; samples = r .samples; state = r .state }) (record { answer = m .answer; events = m .events; samples = []; state = m .state }))
-              ≡ cond d (record { answer = r .answer; events = suc (m .events) + r .events; samples = r .samples; state = r .state }) (record { answer = m .answer; events = suc (m .events); samples = []; state = m .state })
+              (cond d (record { answer = r .answer; events = m .events + r .events; samples = r .samples; state = r .state })
+              (record { answer = m .answer; events = m .events; samples = []; state = m .state }))
+              ≡ cond d (record { answer = r .answer; events = suc (m .events) + r .events; samples = r .samples; state = r .state })
+              (record { answer = m .answer; events = suc (m .events); samples = []; state = m .state })
           on true r = let k : suc (m .events + r .events) ≡ suc (m .events) + r .events = omega arith in rw k refl
           on false r = refl
 
-  pub moves-law : (s : State) (es : List Event) → Good bundle curves s → MovesLaw s es (movesOf bundle s es)
+  pub moves-law : (s : State) (es : List Event) → Good lent s → MovesLaw s es (movesOf (lent .bundle) s es)
   unfolding movesOf
   moves-law s [] good = quiet s good []
-  moves-law s (e ∷ es) good = go (askedOf e .sample) refl (isDoneOf (judgeControlsOf bundle (nextOf s e))) refl (λ g. moves-law (nextOf s e) es g)
+  moves-law s (e ∷ es) good = go (askedOf e .sample) refl (isDoneOf (judgeControlsOf (lent .bundle) (nextOf s e))) refl (λ g. moves-law (nextOf s e) es g)
     where
-      next-good : askedOf e .sample ≡ false → isDoneOf (judgeControlsOf bundle (nextOf s e)) ≡ true → Good bundle curves (nextOf s e)
-      next-good a h = record { valid = next-valid s (good .valid) e; judged = done-is (judgeControlsOf bundle (nextOf s e)) h }
+      next-good : askedOf e .sample ≡ false → isDoneOf (judgeControlsOf (lent .bundle) (nextOf s e)) ≡ true → Good lent (nextOf s e)
+      next-good a h = record { valid = next-valid s (good .valid) e; judged = done-is (judgeControlsOf (lent .bundle) (nextOf s e)) h }
 
-      go : (a : Bool) → askedOf e .sample ≡ a → (d : Bool) → isDoneOf (judgeControlsOf bundle (nextOf s e)) ≡ d → (Good bundle curves (nextOf s e) → MovesLaw (nextOf s e) es (movesOf bundle (nextOf s e) es))
-          → MovesLaw s (e ∷ es) (cond a (noMoves Done s) (cond d (oneMove (movesOf bundle (nextOf s e) es)) (noMoves (judgeControlsOf bundle (nextOf s e)) s)))
+      go : (a : Bool) → askedOf e .sample ≡ a → (d : Bool) → isDoneOf (judgeControlsOf (lent .bundle) (nextOf s e)) ≡ d
+          → (Good lent (nextOf s e) → MovesLaw (nextOf s e) es (movesOf (lent .bundle) (nextOf s e) es))
+          → MovesLaw s (e ∷ es) (cond a (noMoves Done s) (cond d (oneMove (movesOf (lent .bundle) (nextOf s e) es)) (noMoves (judgeControlsOf (lent .bundle) (nextOf s e)) s)))
       go true a d h on = quiet s good (e ∷ es)
-      go false a true h on = more s good e es a h (movesOf bundle (nextOf s e) es) (on (next-good a h))
+      go false a true h on = more s good e es a h (movesOf (lent .bundle) (nextOf s e) es) (on (next-good a h))
       go false a false h on = stop s good e es a h
 
   -- where it is not refused, an event that is no sample is gone
-  pub moves-some : (s : State) (e : Event) (es : List Event) → askedOf e .sample ≡ false → isDoneOf (movesOf bundle s (e ∷ es) .answer) ≡ true → zero < movesOf bundle s (e ∷ es) .events
+  pub moves-some : (s : State) (e : Event) (es : List Event) → askedOf e .sample ≡ false → isDoneOf (movesOf (lent .bundle) s (e ∷ es) .answer) ≡ true
+      → zero < movesOf (lent .bundle) s (e ∷ es) .events
   unfolding movesOf
-  moves-some s e es other = rw other (go (isDoneOf (judgeControlsOf bundle (nextOf s e))) refl)
+  moves-some s e es other = rw other (go (isDoneOf (judgeControlsOf (lent .bundle) (nextOf s e))) refl)
     where
-      go : (d : Bool) → isDoneOf (judgeControlsOf bundle (nextOf s e)) ≡ d
-          → isDoneOf (cond d (oneMove (movesOf bundle (nextOf s e) es)) (noMoves (judgeControlsOf bundle (nextOf s e)) s) .answer) ≡ true
-          → zero < cond d (oneMove (movesOf bundle (nextOf s e) es)) (noMoves (judgeControlsOf bundle (nextOf s e)) s) .events
+      go : (d : Bool) → isDoneOf (judgeControlsOf (lent .bundle) (nextOf s e)) ≡ d
+          → isDoneOf (cond d (oneMove (movesOf (lent .bundle) (nextOf s e) es)) (noMoves (judgeControlsOf (lent .bundle) (nextOf s e)) s) .answer) ≡ true
+          → zero < cond d (oneMove (movesOf (lent .bundle) (nextOf s e) es)) (noMoves (judgeControlsOf (lent .bundle) (nextOf s e)) s) .events
       go true h done = omega arith
       go false h done = absurd (true≢false (sym done ∙ h))

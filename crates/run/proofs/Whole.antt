@@ -7,31 +7,29 @@ use mathlib.Core.Bool.{Bool, true, false, cond, true≢false}
 use mathlib.Core.List.{List, [], _∷_, _++_}
 use lib.Dec.{leb}
 use lib.ListN.{length, drop}
-use lib.Ieee.{Float}
 use borrow.Author.Tests.{leb-true, leb-false, le-leb, lt-leb, eq-eqb}
 use Rattle.answers.specs.declared.Answer.{Answer}
 use Rattle.answers.specs.declared.Answer.the-variants.{Done, Argument, Script, OutputLength}
 use Rattle.answers.specs.Answers.{firstOf, unlessOf, isDoneOf}
 use Rattle.answers.proofs.Laws.{done-is, first-done, unless-done}
-use Rattle.wire.specs.Wire.{u32At, putAt}
+use Rattle.wire.specs.Wire.{Bytes, u32At, putAt}
 use Rattle.wire.proofs.Laws.{putAt-in, putAt-nil}
 use Rattle.control.specs.declared.State.{State}
 use Rattle.control.specs.declared.DecodedState.{DecodedState}
 use Rattle.control.specs.declared.DecodedState.the-variants.{Valid, Invalid}
-use Rattle.control.specs.Block.{validOf, fieldsOf, decodeOf, encodeOf}
-use Rattle.control.proofs.RoundTrip.{decoded}
+use Rattle.control.specs.Block.{validOf, blockOf, fieldsOf, decodeOf, encodeOf}
+use Rattle.control.proofs.RoundTrip.{decoded, encode-decoded}
 use Rattle.controls.specs.Judging.{judgeControlsOf}
 use Rattle.script.specs.declared.Event.{Event}
 use Rattle.script.specs.declared.Checked.{Checked}
 use Rattle.script.specs.declared.Checked.the-variants.{WellFormed, Refused}
-use Rattle.script.specs.Script.{wellFormed, eventCountOf, slicesOf, allReadable, eventsIn, eventsOf, samplesOf, checkScriptOf}
+use Rattle.script.specs.Script.{wellFormed, eventCountOf, slicesOf, eventsOf, samplesOf, checkScriptOf}
 use Rattle.script.proofs.Laws.{slicesFrom, sample-le}
 use Rattle.script.proofs.Cut.{header, events-count}
-use Rattle.filter.specs.Core.{judgeLentOf}
+use Rattle.filter.specs.Lent.{Lent, judgeLentOf}
 use Rattle.run.specs.declared.Played.{Played}
 use Rattle.run.specs.declared.Ended.{Ended}
-use Rattle.run.specs.Parts.{gainValue, stateGain, judgedOf}
-use Rattle.run.proofs.Changes.{judged-is}
+use Rattle.run.specs.Parts.{Ahead, Room, Start, playFrom, playPut}
 use Rattle.filter.specs.Plain.{plainStep}
 use Rattle.run.specs.Run.{Ran, stopped, went, playOf, playedOf, sampleBytes, isValid, judgeBlockOf, judgeScriptOf, judgeRunOf, leftOf, runOf}
 use Rattle.run.specs.Rows.{playEnd, endedOf}
@@ -81,115 +79,125 @@ module _ (script : List ℕ) (room : ℕ) (fine : judgeScriptOf script room ≡ 
 
 -- ---- the start, from a valid state
 
-module _ (bundle curves script : List ℕ) (s : State) (valid : validOf s ≡ true) {a : Answer} (is : a ≡ judgedOf bundle s) {d : Bool} (is-d : d ≡ isDoneOf a) where
-  answer-is : a ≡ judgeControlsOf bundle s
-  answer-is = is ∙ judged-is bundle s valid
-
-  done-here : (v : Bool) → d ≡ v → isDoneOf (judgeControlsOf bundle s) ≡ v
-  done-here v h = ap isDoneOf (sym answer-is) ∙ sym is-d ∙ h
+module _ (lent : Lent) (script : List ℕ) (s : State) (valid : validOf s ≡ true) {a : Answer} (is : a ≡ judgeControlsOf (lent .bundle) s) {d : Bool} (is-d : d ≡ isDoneOf a) where
+  done-here : (v : Bool) → d ≡ v → isDoneOf (judgeControlsOf (lent .bundle) s) ≡ v
+  done-here v h = ap isDoneOf (sym is) ∙ sym is-d ∙ h
 
   -- refused by its controls
   pub start-stops : d ≡ false → (output : List ℕ)
-      → (_≡_ {A = Played} (record { answer = a; events = 0; samples = 0; state = s }) (playEnd 0 0 (playedOf bundle curves s (eventsOf script))))
-      × (output ≡ putAt output 0 (sampleBytes (playedOf bundle curves s (eventsOf script) .samples)))
+      → (_≡_ {A = Played} (record { answer = a; events = 0; samples = 0; state = s }) (playEnd 0 0 (playedOf lent s (eventsOf script))))
+      × (output ≡ playPut output (playedOf lent s (eventsOf script)))
   unfolding playedOf sampleBytes
-  start-stops f output = rw (answer-is, done-here false f) (refl, sym (putAt-nil output 0))
+  start-stops f output = rw (is, done-here false f) (refl, sym (putAt-nil output 0))
 
   module _ (t : d ≡ true) {count : ℕ} (c : count ≡ u32At script 0) where
     first-is : slicesFrom script count 0 ≡ slicesOf script
     first-is = rw (c, sub-zero (eventCountOf script)) refl
 
-    pub start-plays : playOf bundle curves s (eventsIn (slicesFrom script count 0)) ≡ playedOf bundle curves s (eventsOf script)
+    pub start-plays : playFrom lent s script count ≡ playedOf lent s (eventsOf script)
     unfolding playedOf
     start-plays = rw (done-here true t, first-is) refl
 
-    pub ready : {room : ℕ} → judgeLentOf bundle curves ≡ Done → judgeScriptOf script room ≡ Done → {g : Float} → g ≡ gainValue (stateGain bundle s)
-        → (count ≤ 65536) × (judgeLentOf bundle curves ≡ Done) × (validOf s ≡ true) × (judgeControlsOf bundle s ≡ Done) × (allReadable (slicesFrom script count 0) ≡ true)
-        × (16 * samplesOf (eventsIn (slicesFrom script count 0)) ≤ room) × (g ≡ gainValue (stateGain bundle s))
-    ready {room} lent fine gained =
-        let k = header script (formed script room fine) in
-        rw first-is (rw c (k .few), lent, valid, done-is (judgeControlsOf bundle s) (done-here true t), k .readable, fitting script room fine, gained)
+    module _ (output : List ℕ) (fine : judgeScriptOf script (length output) ≡ Done) where
+      pub start-ahead : Ahead script count 0
+      start-ahead =
+          let k = header script (formed script (length output) fine) in
+          record { within = omega arith; few = rw c (k .few); readable = rw first-is (k .readable) }
+
+      pub start-room : Room script count 0 output 0
+      start-room = record { fewer = omega arith; room = rw (first-is, zero-add (samplesOf (eventsOf script))) (fitting script (length output) fine) }
+
+    pub start-from : judgeLentOf lent ≡ Done → Start lent s
+    start-from lent-is = record { ready = lent-is; valid = valid; judged = done-is (judgeControlsOf (lent .bundle) s) (done-here true t) }
 
 -- ---- what is judged before the controls
 
-module _ (bundle curves block script : List ℕ) (room : ℕ) where
-  pub judged-invalid : {x : DecodedState} → x ≡ decodeOf block → x ≡ Invalid → firstOf (judgeLentOf bundle curves) Argument ≡ judgeRunOf bundle curves block script room
+module _ (lent : Lent) (block script : List ℕ) (room : ℕ) where
+  pub judged-invalid : {x : DecodedState} → x ≡ decodeOf block → x ≡ Invalid → firstOf (judgeLentOf lent) Argument ≡ judgeRunOf lent block script room
   unfolding judgeRunOf
   judged-invalid e h = rw (sym e ∙ h) refl
 
   pub judged-valid : (s : State) {x : DecodedState} → x ≡ decodeOf block → x ≡ Valid s
-      → firstOf (judgeLentOf bundle curves) (judgeScriptOf script room) ≡ judgeRunOf bundle curves block script room
+      → firstOf (judgeLentOf lent) (judgeScriptOf script room) ≡ judgeRunOf lent block script room
   unfolding judgeRunOf
   judged-valid s e h = rw (sym e ∙ h) refl
 
-  module _ (judged : judgeRunOf bundle curves block script room ≡ Done) where
-    parts : (judgeLentOf bundle curves ≡ Done) × (judgeBlockOf block ≡ Done) × (judgeScriptOf script room ≡ Done)
+  module _ (judged : judgeRunOf lent block script room ≡ Done) where
+    pub parts : (judgeLentOf lent ≡ Done) × (judgeBlockOf block ≡ Done) × (judgeScriptOf script room ≡ Done)
     unfolding judgeRunOf
     parts =
-        let p = first-done (judgeLentOf bundle curves) (firstOf (judgeBlockOf block) (judgeScriptOf script room)) judged in
+        let p = first-done (judgeLentOf lent) (firstOf (judgeBlockOf block) (judgeScriptOf script room)) judged in
         let q = first-done (judgeBlockOf block) (judgeScriptOf script room) (p .1) in
         (p .0, q .0, q .1)
 
     pub roomy : 16 * samplesOf (eventsOf script) ≤ room
     roomy = fitting script room (parts .2)
 
-    block-long : length block ≡ 24
-    block-long = go (decodeOf block) refl (unless-done (isValid (decodeOf block)) Argument refl (parts .1))
+    pub block-valid : decodeOf block ≡ Valid (fieldsOf block)
+    block-valid = go (decodeOf block) refl (unless-done (isValid (decodeOf block)) Argument refl (parts .1))
       where
-        go : (x : DecodedState) → decodeOf block ≡ x → isValid x ≡ true → length block ≡ 24
-        go (Valid s) e h = decoded block s e .long
+        go : (x : DecodedState) → decodeOf block ≡ x → isValid x ≡ true → decodeOf block ≡ Valid (fieldsOf block)
+        go (Valid s) e h = e ∙ ap Valid (sym (decoded block s e .fields))
         go Invalid e h = absurd (true≢false (sym h))
+
+    block-long : length block ≡ 24
+    block-long = decoded block (fieldsOf block) block-valid .long
+
+    -- the block of the state that a block stands for is the block
+    pub block-stands : Bytes block → blockOf (fieldsOf block) ≡ block
+    block-stands bytes = encode-decoded block (fieldsOf block) bytes block-valid .0
 
 -- ---- the bytes that are left
 
-module _ (bundle curves block script output : List ℕ) (judged : judgeRunOf bundle curves block script (length output) ≡ Done) where
+module _ (lent : Lent) (block script output : List ℕ) (judged : judgeRunOf lent block script (length output) ≡ Done) where
   abbrev ran : Ran
-  ran = playedOf bundle curves (fieldsOf block) (eventsOf script)
+  ran = playedOf lent (fieldsOf block) (eventsOf script)
 
   ran-few : length (ran .samples) ≤ samplesOf (eventsOf script)
   unfolding playedOf
-  ran-few = go (isDoneOf (judgeControlsOf bundle (fieldsOf block)))
+  ran-few = go (isDoneOf (judgeControlsOf (lent .bundle) (fieldsOf block)))
     where
-      go : (d : Bool) → length (cond d (playOf bundle curves (fieldsOf block) (eventsOf script)) (stopped (judgeControlsOf bundle (fieldsOf block)) (fieldsOf block)) .samples) ≤ samplesOf (eventsOf script)
-      go true = played-few bundle curves (fieldsOf block) (eventsOf script)
+      go : (d : Bool)
+          → length (cond d (playOf lent (fieldsOf block) (eventsOf script)) (stopped (judgeControlsOf (lent .bundle) (fieldsOf block)) (fieldsOf block)) .samples) ≤ samplesOf (eventsOf script)
+      go true = played-few lent (fieldsOf block) (eventsOf script)
       go false = omega arith
 
   front : putAt output 0 (sampleBytes (ran .samples)) ≡ sampleBytes (ran .samples) ++ drop (16 * length (ran .samples)) output
   front =
       let n = length-outputs (ran .samples) in
       let few = ran-few in
-      let room = roomy bundle curves block script (length output) judged in
+      let room = roomy lent block script (length output) judged in
       putAt-in output 0 (sampleBytes (ran .samples)) (omega arith)
       ∙ rw (zero-add (length (sampleBytes (ran .samples))), n) refl
 
   run-done :
       {p : Played} → p ≡ playEnd 0 0 ran → {after state : List ℕ} → after ≡ putAt output 0 (sampleBytes (ran .samples)) → state ≡ encodeOf (p .state) block
-      → (_≡_ {A = Ended} (record { answer = p .answer; events = p .events; samples = p .samples }) (endedOf (runOf bundle curves block script output)))
-      × ((state ≡ runOf bundle curves block script output .state) × (after ≡ runOf bundle curves block script output .output))
+      → (_≡_ {A = Ended} (record { answer = p .answer; events = p .events; samples = p .samples }) (endedOf (runOf lent block script output)))
+      × ((state ≡ runOf lent block script output .state) × (after ≡ runOf lent block script output .output))
   unfolding runOf encodeOf
   run-done is put left =
-      rw (put, left, is, judged, eq-eqb (length block) 24 (block-long bundle curves block script (length output) judged), zero-add (ran .events), zero-add (length (ran .samples)))
+      rw (put, left, is, judged, eq-eqb (length block) 24 (block-long lent block script (length output) judged), zero-add (ran .events), zero-add (length (ran .samples)))
       (refl, (refl, front))
 
 -- from the state that the block stands for
-module _ (bundle curves block script : List ℕ) (s : State) {x : DecodedState} (e : x ≡ decodeOf block) (h : x ≡ Valid s) where
-  module _ (room : ℕ) {a : Answer} (is-a : a ≡ firstOf (judgeLentOf bundle curves) (judgeScriptOf script room)) where
-    pub valid-judged : a ≡ judgeRunOf bundle curves block script room
-    valid-judged = is-a ∙ judged-valid bundle curves block script room s e h
+module _ (lent : Lent) (block script : List ℕ) (s : State) {x : DecodedState} (e : x ≡ decodeOf block) (h : x ≡ Valid s) where
+  module _ (room : ℕ) {a : Answer} (is-a : a ≡ firstOf (judgeLentOf lent) (judgeScriptOf script room)) where
+    pub valid-judged : a ≡ judgeRunOf lent block script room
+    valid-judged = is-a ∙ judged-valid lent block script room s e h
 
-    pub valid-fine : a ≡ Done → (judgeLentOf bundle curves ≡ Done) × (validOf s ≡ true) × (judgeScriptOf script room ≡ Done)
+    pub valid-fine : a ≡ Done → (judgeLentOf lent ≡ Done) × (validOf s ≡ true) × (judgeScriptOf script room ≡ Done)
     valid-fine done =
-        let p = first-done (judgeLentOf bundle curves) (judgeScriptOf script room) (sym is-a ∙ done) in
+        let p = first-done (judgeLentOf lent) (judgeScriptOf script room) (sym is-a ∙ done) in
         (p .0, decoded block s (sym e ∙ h) .valid, p .1)
 
-  pub valid-done : (output : List ℕ) {a : Answer} → a ≡ firstOf (judgeLentOf bundle curves) (judgeScriptOf script (length output)) → a ≡ Done
-      → {p : Played} → p ≡ playEnd 0 0 (playedOf bundle curves s (eventsOf script)) → {after state : List ℕ}
-      → after ≡ putAt output 0 (sampleBytes (playedOf bundle curves s (eventsOf script) .samples)) → state ≡ encodeOf (p .state) block
-      → (_≡_ {A = Ended} (record { answer = p .answer; events = p .events; samples = p .samples }) (endedOf (runOf bundle curves block script output)))
-      × ((state ≡ runOf bundle curves block script output .state) × (after ≡ runOf bundle curves block script output .output))
+  pub valid-done : (output : List ℕ) {a : Answer} → a ≡ firstOf (judgeLentOf lent) (judgeScriptOf script (length output)) → a ≡ Done
+      → {p : Played} → p ≡ playEnd 0 0 (playedOf lent s (eventsOf script)) → {after state : List ℕ}
+      → after ≡ playPut output (playedOf lent s (eventsOf script)) → state ≡ encodeOf (p .state) block
+      → (_≡_ {A = Ended} (record { answer = p .answer; events = p .events; samples = p .samples }) (endedOf (runOf lent block script output)))
+      × ((state ≡ runOf lent block script output .state) × (after ≡ runOf lent block script output .output))
   valid-done output is-a done is put left =
       let f = decoded block s (sym e ∙ h) .fields in
-      run-done bundle curves block script output (sym (valid-judged (length output) is-a) ∙ done) (rw f is) (rw f put) left
+      run-done lent block script output (sym (valid-judged (length output) is-a) ∙ done) (rw f is) (rw f put) left
 
 never-done : (l : Answer) → isDoneOf (firstOf l Argument) ≡ false
 never-done l = go (isDoneOf l) refl
@@ -199,21 +207,21 @@ never-done l = go (isDoneOf l) refl
     go false h = h
 
 pub run-refused :
-    (bundle curves block script output : List ℕ) {a : Answer} → a ≡ judgeRunOf bundle curves block script (length output) → isDoneOf a ≡ false
-    → (_≡_ {A = Ended} (record { answer = a; events = 0; samples = 0 }) (endedOf (runOf bundle curves block script output)))
-    × ((block ≡ runOf bundle curves block script output .state) × (output ≡ runOf bundle curves block script output .output))
+    (lent : Lent) (block script output : List ℕ) {a : Answer} → a ≡ judgeRunOf lent block script (length output) → isDoneOf a ≡ false
+    → (_≡_ {A = Ended} (record { answer = a; events = 0; samples = 0 }) (endedOf (runOf lent block script output)))
+    × ((block ≡ runOf lent block script output .state) × (output ≡ runOf lent block script output .output))
 unfolding runOf
-run-refused bundle curves block script output is off =
-    let d : isDoneOf (judgeRunOf bundle curves block script (length output)) ≡ false = ap isDoneOf (sym is) ∙ off in
+run-refused lent block script output is off =
+    let d : isDoneOf (judgeRunOf lent block script (length output)) ≡ false = ap isDoneOf (sym is) ∙ off in
     rw (is, d) (refl, (refl, refl))
 
 -- an invalid block
 pub invalid-refused :
-    (bundle curves block script output : List ℕ) {x : DecodedState} → x ≡ decodeOf block → x ≡ Invalid → {a : Answer} → a ≡ firstOf (judgeLentOf bundle curves) Argument
-    → (_≡_ {A = Ended} (record { answer = a; events = 0; samples = 0 }) (endedOf (runOf bundle curves block script output)))
-    × ((block ≡ runOf bundle curves block script output .state) × (output ≡ runOf bundle curves block script output .output))
-invalid-refused bundle curves block script output e h is =
-    run-refused bundle curves block script output (is ∙ judged-invalid bundle curves block script (length output) e h) (ap isDoneOf is ∙ never-done (judgeLentOf bundle curves))
+    (lent : Lent) (block script output : List ℕ) {x : DecodedState} → x ≡ decodeOf block → x ≡ Invalid → {a : Answer} → a ≡ firstOf (judgeLentOf lent) Argument
+    → (_≡_ {A = Ended} (record { answer = a; events = 0; samples = 0 }) (endedOf (runOf lent block script output)))
+    × ((block ≡ runOf lent block script output .state) × (output ≡ runOf lent block script output .output))
+invalid-refused lent block script output e h is =
+    run-refused lent block script output (is ∙ judged-invalid lent block script (length output) e h) (ap isDoneOf is ∙ never-done (judgeLentOf lent))
 
 -- ---- how many events and samples there can be
 
@@ -222,37 +230,41 @@ unfolding samplesOf
 samples-most [] = omega arith
 samples-most (e ∷ es) = omega (arith, sample-le e, samples-most es)
 
-play-most : (bundle curves : List ℕ) (s : State) (es : List Event) → playOf bundle curves s es .events ≤ length es
+play-most : (lent : Lent) (s : State) (es : List Event) → playOf lent s es .events ≤ length es
 unfolding playOf
-play-most bundle curves s [] = omega arith
-play-most bundle curves s (e ∷ es) = go (isDoneOf (plainStep bundle curves s e .answer)) (play-most bundle curves (plainStep bundle curves s e .state) es)
+play-most lent s [] = omega arith
+play-most lent s (e ∷ es) = go (isDoneOf (plainStep lent s e .answer)) (play-most lent (plainStep lent s e .state) es)
   where
-    go : (d : Bool) → playOf bundle curves (plainStep bundle curves s e .state) es .events ≤ length es
-        → cond d (went (plainStep bundle curves s e) (playOf bundle curves (plainStep bundle curves s e .state) es)) (stopped (plainStep bundle curves s e .answer) s) .events ≤ suc (length es)
+    go : (d : Bool) → playOf lent (plainStep lent s e .state) es .events ≤ length es
+        → cond d (went (plainStep lent s e) (playOf lent (plainStep lent s e .state) es)) (stopped (plainStep lent s e .answer) s) .events ≤ suc (length es)
     go true h = omega arith
     go false h = omega arith
 
 -- At most 65,536 of each, so that both fit the C interface's u32.
-pub run-most : (bundle curves block script output : List ℕ) → (runOf bundle curves block script output .events ≤ 65536) × (runOf bundle curves block script output .samples ≤ 65536)
+pub run-most : (lent : Lent) (block script output : List ℕ) → (runOf lent block script output .events ≤ 65536) × (runOf lent block script output .samples ≤ 65536)
 unfolding runOf playedOf
-run-most bundle curves block script output = go (isDoneOf (judgeRunOf bundle curves block script (length output))) refl
+run-most lent block script output = go (isDoneOf (judgeRunOf lent block script (length output))) refl
   where
-    go : (d : Bool) → isDoneOf (judgeRunOf bundle curves block script (length output)) ≡ d
-        → (cond d (leftOf (playedOf bundle curves (fieldsOf block) (eventsOf script)) output) (record { answer = judgeRunOf bundle curves block script (length output); events = 0; samples = 0; state = block; output = output }) .events ≤ 65536)
-        × (cond d (leftOf (playedOf bundle curves (fieldsOf block) (eventsOf script)) output) (record { answer = judgeRunOf bundle curves block script (length output); events = 0; samples = 0; state = block; output = output }) .samples ≤ 65536)
+    go : (d : Bool) → isDoneOf (judgeRunOf lent block script (length output)) ≡ d
+        →
+        (cond d (leftOf (playedOf lent (fieldsOf block) (eventsOf script)) output)
+        (record { answer = judgeRunOf lent block script (length output); events = 0; samples = 0; state = block; output = output }) .events ≤ 65536)
+        ×
+        (cond d (leftOf (playedOf lent (fieldsOf block) (eventsOf script)) output)
+        (record { answer = judgeRunOf lent block script (length output); events = 0; samples = 0; state = block; output = output }) .samples ≤ 65536)
     go true h =
-        let judged = done-is (judgeRunOf bundle curves block script (length output)) h in
-        let f = formed script (length output) (parts bundle curves block script (length output) judged .2) in
+        let judged = done-is (judgeRunOf lent block script (length output)) h in
+        let f = formed script (length output) (parts lent block script (length output) judged .2) in
         let n = events-count script f in
         let few = header script f .few in
         let most = samples-most (eventsOf script) in
-        let written = ran-few bundle curves block script output judged in
-        (either (isDoneOf (judgeControlsOf bundle (fieldsOf block))), omega arith)
+        let written = ran-few lent block script output judged in
+        (either (isDoneOf (judgeControlsOf (lent .bundle) (fieldsOf block))), omega arith)
       where
-        either : (d : Bool) → cond d (playOf bundle curves (fieldsOf block) (eventsOf script)) (stopped (judgeControlsOf bundle (fieldsOf block)) (fieldsOf block)) .events ≤ 65536
+        either : (d : Bool) → cond d (playOf lent (fieldsOf block) (eventsOf script)) (stopped (judgeControlsOf (lent .bundle) (fieldsOf block)) (fieldsOf block)) .events ≤ 65536
         either true =
-            let judged = done-is (judgeRunOf bundle curves block script (length output)) h in
-            let f = formed script (length output) (parts bundle curves block script (length output) judged .2) in
-            omega (arith, play-most bundle curves (fieldsOf block) (eventsOf script), events-count script f, header script f .few)
+            let judged = done-is (judgeRunOf lent block script (length output)) h in
+            let f = formed script (length output) (parts lent block script (length output) judged .2) in
+            omega (arith, play-most lent (fieldsOf block) (eventsOf script), events-count script f, header script f .few)
         either false = omega arith
     go false h = (omega arith, omega arith)

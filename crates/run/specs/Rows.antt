@@ -1,4 +1,5 @@
--- Samples in a row, between which only the integrator moves, and other events in a row: how the run's loop takes its events.
+-- How the run's loop takes its events: samples in a row, between which only the integrator moves, and other events in a row. What follows serves the proof of the
+-- loop; no promise is stated with it.
 use Prim.Native.Nat.{ℕ, suc, _+_}
 use mathlib.Core.Bool.{true, false, cond}
 use mathlib.Core.List.{List, [], _∷_}
@@ -19,6 +20,7 @@ use Rattle.sample.specs.declared.Sampled.the-variants.{Taken, Refused}
 use Rattle.sample.specs.Sample.{summerSlotOf, filterSampleOf}
 use Rattle.script.specs.declared.Event.{Event}
 use Rattle.script.specs.declared.Event.the-variants.{CutoffLow, CutoffHigh, Routing, Mode, Sample, Reset}
+use Rattle.filter.specs.Lent.{Lent}
 use Rattle.run.specs.declared.Asked.{Asked}
 use Rattle.run.specs.declared.Row.{Row}
 use Rattle.run.specs.declared.Played.{Played}
@@ -55,11 +57,11 @@ abbrev pub rowOn : (IntegratorState → Samples) → IntegratorState → Sampled
 rowOn later i (Taken o j) = oneMore o (later j)
 rowOn later i (Refused answer) = noSamples answer i
 
-unfoldable pub rowOf : List ℕ → List ℕ → MixingTopology → ControlCache → ℕ → IntegratorState → List Event → Samples
-rowOf bundle curves t c mode i [] = noSamples Done i
-rowOf bundle curves t c mode i (e ∷ es) =
+unfoldable pub rowOf : Lent → MixingTopology → ControlCache → ℕ → IntegratorState → List Event → Samples
+rowOf lent t c mode i [] = noSamples Done i
+rowOf lent t c mode i (e ∷ es) =
     cond (askedOf e .sample)
-    (rowOn (λ j. rowOf bundle curves t c mode j es) i (filterSampleOf bundle curves (summerSlotOf t) t c mode i (askedOf e .«input_sum») (askedOf e .«source_energy»)))
+    (rowOn (λ j. rowOf lent t c mode j es) i (filterSampleOf (lent .bundle) (lent .curves) (summerSlotOf t) t c mode i (askedOf e .«input_sum») (askedOf e .«source_energy»)))
     (noSamples Done i)
 
 -- The state that an event which is no sample leads to.

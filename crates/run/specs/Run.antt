@@ -1,4 +1,4 @@
--- Document 01's run: the plain machine on the bytes that are lent, up to its first refusal.
+-- The run: the plain machine on the bytes that are lent, up to its first refusal.
 use Prim.Native.Nat.{ℕ, suc, _*_}
 use mathlib.Core.Bool.{Bool, true, false, cond}
 use mathlib.Core.List.{List, [], _∷_, _++_}
@@ -17,7 +17,7 @@ use Rattle.controls.specs.Judging.{judgeControlsOf}
 use Rattle.sample.specs.declared.Outputs.{Outputs}
 use Rattle.script.specs.declared.Event.{Event}
 use Rattle.script.specs.Script.{wellFormed, eventsOf, samplesOf}
-use Rattle.filter.specs.Core.{judgeLentOf}
+use Rattle.filter.specs.Lent.{Lent, judgeLentOf}
 use Rattle.filter.specs.Plain.{Plain, plainStep}
 
 -- ---- the events
@@ -37,17 +37,17 @@ abbrev pub went : Plain → Ran → Ran
 went p r = record { answer = r .answer; events = suc (r .events); samples = p .sample ++ r .samples; state = r .state }
 
 -- The plain machine fed with events, up to the first that is refused.
-unfoldable pub playOf : List ℕ → List ℕ → State → List Event → Ran
-playOf bundle curves s [] = stopped Done s
-playOf bundle curves s (e ∷ es) =
-    let p = plainStep bundle curves s e in
-    cond (isDoneOf (p .answer)) (went p (playOf bundle curves (p .state) es)) (stopped (p .answer) s)
+unfoldable pub playOf : Lent → State → List Event → Ran
+playOf lent s [] = stopped Done s
+playOf lent s (e ∷ es) =
+    let p = plainStep lent s e in
+    cond (isDoneOf (p .answer)) (went p (playOf lent (p .state) es)) (stopped (p .answer) s)
 
 -- Controls are worked out before the first event, and with 0 events too: a 3 or 6 there counts as no event done.
-unfoldable pub playedOf : List ℕ → List ℕ → State → List Event → Ran
-playedOf bundle curves s es =
-    let started = judgeControlsOf bundle s in
-    cond (isDoneOf started) (playOf bundle curves s es) (stopped started s)
+unfoldable pub playedOf : Lent → State → List Event → Ran
+playedOf lent s es =
+    let started = judgeControlsOf (lent .bundle) s in
+    cond (isDoneOf started) (playOf lent s es) (stopped started s)
 
 -- ---- the bytes
 
@@ -72,8 +72,8 @@ unfoldable pub judgeScriptOf : List ℕ → ℕ → Answer
 judgeScriptOf script room = firstOf (unlessOf (wellFormed script) Script) (unlessOf (leb (16 * samplesOf (eventsOf script)) room) OutputLength)
 
 -- 1, 2, 4, 10, 7, 8
-unfoldable pub judgeRunOf : List ℕ → List ℕ → List ℕ → List ℕ → ℕ → Answer
-judgeRunOf bundle curves block script room = firstOf (judgeLentOf bundle curves) (firstOf (judgeBlockOf block) (judgeScriptOf script room))
+unfoldable pub judgeRunOf : Lent → List ℕ → List ℕ → ℕ → Answer
+judgeRunOf lent block script room = firstOf (judgeLentOf lent) (firstOf (judgeBlockOf block) (judgeScriptOf script room))
 
 -- What a run answers, and the bytes that it leaves in the state block and in the output.
 pub record Run : Type 0 where
@@ -94,9 +94,9 @@ leftOf r output =
       output = sampleBytes (r .samples) ++ drop (16 * length (r .samples)) output;
     }
 
-unfoldable pub runOf : List ℕ → List ℕ → List ℕ → List ℕ → List ℕ → Run
-runOf bundle curves block script output =
-    let judged = judgeRunOf bundle curves block script (length output) in
+unfoldable pub runOf : Lent → List ℕ → List ℕ → List ℕ → Run
+runOf lent block script output =
+    let judged = judgeRunOf lent block script (length output) in
     cond (isDoneOf judged)
-    (leftOf (playedOf bundle curves (fieldsOf block) (eventsOf script)) output)
+    (leftOf (playedOf lent (fieldsOf block) (eventsOf script)) output)
     (record { answer = judged; events = 0; samples = 0; state = block; output = output })

@@ -1,19 +1,15 @@
 // A run: a script's events through the filter, on lent bytes.
 ghost use mathlib.Core.Path.{_≡_};
 ghost use mathlib.Core.Bool.{true};
-ghost use Prim.Native.Nat.{_+_, _*_, _≤_};
 ghost use lib.ListN.{length};
-ghost use Rattle.wire.specs.Wire.{putAt};
-ghost use Rattle.script.specs.Script.{allReadable, eventsIn, eventsOf, samplesOf};
-ghost use Rattle.script.proofs.Laws.{slicesFrom};
 ghost use Rattle.answers.specs.declared.Answer.the-variants.{Done};
+ghost use Rattle.wire.specs.Wire.{putAt};
 ghost use Rattle.control.specs.Registers.{effectiveCutoffOf};
-ghost use Rattle.kept.specs.Kept.{coreRefreshedOf};
-ghost use Rattle.filter.specs.Core.{freshTopologyOf, judgeLentOf};
 ghost use Rattle.control.specs.Block.{validOf};
-ghost use Rattle.controls.specs.Judging.{judgeControlsOf};
-ghost use Rattle.sample.specs.Kept.{restOf};
+ghost use Rattle.refresh.specs.Refresh.{refreshCoreOf};
 ghost use Rattle.sample.specs.Sample.{outputsFinite};
+ghost use Rattle.script.specs.Script.{eventsOf};
+ghost use Rattle.filter.specs.Lent.{lentOf, judgeLentOf};
 ghost use Rattle.run.specs.Run as R;
 ghost use Rattle.run.specs.Rows as W;
 ghost use Rattle.run.specs.Parts as P;
@@ -21,9 +17,9 @@ use answers::Answer;
 use bundle::Read;
 use control::State;
 use integrator::IntegratorState;
-use kept::CoreControls;
-use kept::CoreRefreshed;
 use mixing::MixingTopology;
+use refresh::CoreControls;
+use refresh::CoreRefreshed;
 use sample::Outputs;
 use sample::Sampled;
 use script::Checked;
@@ -52,7 +48,7 @@ pub struct Row {
     pub integrator: IntegratorState,
 }
 
-// What is kept between samples in a row: of the controls the part that a sample reads, and the summer's rest.
+// What samples in a row share: of the controls the part that a sample reads, and the summer's rest.
 pub struct Parts {
     pub topology: MixingTopology,
     pub gains: [f32; 16],
@@ -65,12 +61,6 @@ pub struct Parts {
 pub struct Resting {
     pub inputs: usize,
     pub rest: Read,
-}
-
-// What the controls of a state refuse, and its mode's gain.
-pub struct Judged {
-    pub answer: Answer,
-    pub gain: f32,
 }
 
 // Where events in a row that are no samples end, by the events done up to there.
@@ -119,49 +109,24 @@ fn no_sample() -> Asked
     }
 }
 
-// ---- what is kept
-
-fn gain_value(gain: Read) -> f32
-    ensures { λ r. ⌜ r ≡ P.gainValue gain ⌝ }
-{
-    match gain {
-        Read::Value(x) => x,
-        Read::Refused(_answer) => 0.0,
-    }
-}
-
-fn gain_answer(gain: Read) -> Answer
-    ensures { λ r. ⌜ r ≡ P.gainAnswer gain ⌝ }
-{
-    match gain {
-        Read::Value(_x) => Answer::Done,
-        Read::Refused(answer) => answer,
-    }
-}
+// ---- what samples in a row share
 
 fn core_of(bundle: &[u8], state: State) -> CoreRefreshed
-    ensures { λ r. ⌜ r ≡ coreRefreshedOf (now (bundle .entry)) (effectiveCutoffOf state) (state .registers .resonance) ⌝ }
+    ensures { λ r. ⌜ r ≡ refreshCoreOf (now (bundle .entry)) (effectiveCutoffOf state) (state .registers .resonance) ⌝ }
 {
     let registers = state.registers;
-    kept::refresh_core(bundle, state.effective_cutoff(), registers.resonance)
-}
-
-fn topology_of(state: State) -> MixingTopology
-    ensures { λ r. ⌜ r ≡ freshTopologyOf state ⌝ }
-{
-    let registers = state.registers;
-    MixingTopology::update(registers.routing, registers.mode)
+    refresh::refresh_core(bundle, state.effective_cutoff(), registers.resonance)
 }
 
 // What samples in a row read, from a state with its mode's gain and its summer's rest.
 fn parts_of(bundle: &[u8], state: State, gain: f32, rest: Read) -> Parts
-    requires { ⌜ (gain ≡ P.gainValue (P.stateGain (now bundle) state)) × (rest ≡ restOf (now bundle) (freshTopologyOf state)) ⌝ }
+    requires { ⌜ P.Given (now bundle) state gain rest ⌝ }
     ensures { λ r. ⌜ r ≡ P.partsOf (now (bundle .entry)) state ⌝ }
 {
     let fresh = core_of(bundle, state);
     let gains = fresh.integrator_gain;
     let core = fresh.core;
-    let topology = topology_of(state);
+    let topology = filter::fresh_topology(state);
     Parts {
         topology,
         gains,
@@ -180,32 +145,18 @@ fn resting_of(bundle: &[u8], topology: MixingTopology) -> Resting
     }
 }
 
-// The same from one that is kept: it stays where the count of inputs does.
-fn resting_from(bundle: &[u8], kept: Resting, topology: MixingTopology) -> Resting
-    requires { ⌜ kept ≡ P.restingOf (now bundle) (kept .inputs) ⌝ }
+// The same from an older one: it stays where the count of inputs does.
+fn resting_from(bundle: &[u8], old: Resting, topology: MixingTopology) -> Resting
+    requires { ⌜ old ≡ P.restingOf (now bundle) (old .inputs) ⌝ }
     ensures { λ r. ⌜ r ≡ P.restingOf (now (bundle .entry)) (topology .«filter_input_count») ⌝ }
 {
-    if topology.filter_input_count == kept.inputs {
-        return kept;
+    if topology.filter_input_count == old.inputs {
+        return old;
     }
     resting_of(bundle, topology)
 }
 
-// ---- what is refused
-
-// What the controls of a state refuse, 3 of the filter's entries, then 3 and 6 of the gain, and the gain.
-fn judge_state(bundle: &[u8], state: State) -> Judged
-    ensures { λ r. ⌜ r ≡ P.judgedWith (now (bundle .entry)) state ⌝ }
-{
-    let registers = state.registers;
-    let effective = state.effective_cutoff();
-    let core = kept::judge_core(bundle, effective, registers.resonance);
-    let gain = kept::refresh_gain(bundle, registers, effective);
-    Judged {
-        answer: answers::first(core, gain_answer(gain)),
-        gain: gain_value(gain),
-    }
-}
+// ---- other events
 
 // The state that an event which is no sample leads to.
 fn next_state(state: State, event: Event) -> State
@@ -254,8 +205,11 @@ fn play_samples(
     output: &mut [u8],
     before: usize,
 ) -> Row
-    requires { ⌜ (start ≤ count) × (count ≤ 65536) × (before ≤ start) × (allReadable (slicesFrom (now script) count start) ≡ true) × (16 * (before + samplesOf (eventsIn (slicesFrom (now script) count start))) ≤ length (now output)) × (gain ≡ P.gainValue (P.stateGain (now bundle) state)) × («summer_rest» ≡ restOf (now bundle) (freshTopologyOf state)) ⌝ }
-    ensures { λ r. ⌜ (r ≡ W.rowEnd start before (P.keptRowOf (now (bundle .entry)) (now (curves .entry)) state (eventsIn (slicesFrom (now (script .entry)) count start)))) × (now (output .exit) ≡ putAt (now (output .entry)) (16 * before) (R.sampleBytes (P.keptRowOf (now (bundle .entry)) (now (curves .entry)) state (eventsIn (slicesFrom (now (script .entry)) count start)) .outputs))) ⌝ }
+    requires { ⌜ P.Ahead (now script) count start ⌝ }
+    requires { ⌜ P.Room (now script) count start (now output) before ⌝ }
+    requires { ⌜ P.Given (now bundle) state gain «summer_rest» ⌝ }
+    ensures { λ r. ⌜ r ≡ W.rowEnd start before (P.samplesFrom (lentOf (now (bundle .entry)) (now (curves .entry))) state (now (script .entry)) count start) ⌝ }
+    ensures { λ _. ⌜ now (output .exit) ≡ P.samplesPut (now (output .entry)) before (P.samplesFrom (lentOf (now (bundle .entry)) (now (curves .entry))) state (now (script .entry)) count start) ⌝ }
 {
     let parts = parts_of(bundle, state, gain, summer_rest);
     let topology = parts.topology;
@@ -265,8 +219,8 @@ fn play_samples(
     let slot = sample::summer_slot(topology);
     let registers = state.registers;
     let from = state.integrator;
-    let input_drives = kept::input_drives();
-    let feedback_drives = kept::feedback_drives();
+    let input_drives = constants::input_drives();
+    let feedback_drives = constants::feedback_drives();
     let mut integrator = from;
     let mut earlier = from;
     let mut samples = before;
@@ -282,7 +236,7 @@ fn play_samples(
         };
         let ask = asks(event);
         if ask.sample {
-            match sample::sample_kept(
+            match sample::sample_from_parts(
                 curves,
                 slot,
                 topology,
@@ -342,8 +296,9 @@ fn play_changes(
     start: usize,
     count: usize,
 ) -> Moved
-    requires { ⌜ (start ≤ count) × (count ≤ 65536) × (validOf from ≡ true) × (allReadable (slicesFrom (now script) count start) ≡ true) × (given ≡ P.gainValue (P.stateGain (now bundle) from)) ⌝ }
-    ensures { λ r. ⌜ r ≡ P.movesEnd (now (bundle .entry)) start (W.movesOf (now (bundle .entry)) from (eventsIn (slicesFrom (now (script .entry)) count start))) ⌝ }
+    requires { ⌜ P.Ahead (now script) count start ⌝ }
+    requires { ⌜ P.From (now bundle) from given ⌝ }
+    ensures { λ r. ⌜ r ≡ P.movesEnd (now (bundle .entry)) start (P.movesFrom (now (bundle .entry)) from (now (script .entry)) count start) ⌝ }
 {
     let mut state = from;
     let mut gain = given;
@@ -367,7 +322,7 @@ fn play_changes(
             };
         }
         let next = next_state(state, event);
-        let judged = judge_state(bundle, next);
+        let judged = refresh::judge_controls(bundle, next);
         let answer = judged.answer;
         if answers::is_done(answer) {
             state = next;
@@ -402,10 +357,14 @@ fn play(
     count: usize,
     output: &mut [u8],
 ) -> Played
-    requires { ⌜ (count ≤ 65536) × (judgeLentOf (now bundle) (now curves) ≡ Done) × (validOf first ≡ true) × (judgeControlsOf (now bundle) first ≡ Done) × (allReadable (slicesFrom (now script) count 0) ≡ true) × (16 * samplesOf (eventsIn (slicesFrom (now script) count 0)) ≤ length (now output)) × (given ≡ P.gainValue (P.stateGain (now bundle) first)) ⌝ }
-    ensures { λ r. ⌜ (r ≡ W.playEnd 0 0 (R.playOf (now (bundle .entry)) (now (curves .entry)) first (eventsIn (slicesFrom (now (script .entry)) count 0)))) × (now (output .exit) ≡ putAt (now (output .entry)) 0 (R.sampleBytes (R.playOf (now (bundle .entry)) (now (curves .entry)) first (eventsIn (slicesFrom (now (script .entry)) count 0)) .samples))) ⌝ }
+    requires { ⌜ P.Ahead (now script) count 0 ⌝ }
+    requires { ⌜ P.Room (now script) count 0 (now output) 0 ⌝ }
+    requires { ⌜ P.Start (lentOf (now bundle) (now curves)) first ⌝ }
+    requires { ⌜ P.From (now bundle) first given ⌝ }
+    ensures { λ r. ⌜ r ≡ W.playEnd 0 0 (P.playFrom (lentOf (now (bundle .entry)) (now (curves .entry))) first (now (script .entry)) count) ⌝ }
+    ensures { λ _. ⌜ now (output .exit) ≡ P.playPut (now (output .entry)) (P.playFrom (lentOf (now (bundle .entry)) (now (curves .entry))) first (now (script .entry)) count) ⌝ }
 {
-    let mut resting = resting_of(bundle, topology_of(first));
+    let mut resting = resting_of(bundle, filter::fresh_topology(first));
     let mut state = first;
     let mut gain = given;
     let mut samples = 0;
@@ -424,7 +383,7 @@ fn play(
                 state,
             };
         }
-        resting = resting_from(bundle, resting, topology_of(state));
+        resting = resting_from(bundle, resting, filter::fresh_topology(state));
         let rest = resting.rest;
         let row = play_samples(
             bundle,
@@ -476,10 +435,11 @@ fn judge_script(script: &[u8], room: usize) -> Answer
 
 // The controls of a valid state, then the events.
 fn play_from(bundle: &[u8], curves: &[u8], from: State, script: &[u8], output: &mut [u8]) -> Played
-    requires { ⌜ (judgeLentOf (now bundle) (now curves) ≡ Done) × (validOf from ≡ true) × (R.judgeScriptOf (now script) (length (now output)) ≡ Done) ⌝ }
-    ensures { λ r. ⌜ (r ≡ W.playEnd 0 0 (R.playedOf (now (bundle .entry)) (now (curves .entry)) from (eventsOf (now (script .entry))))) × (now (output .exit) ≡ putAt (now (output .entry)) 0 (R.sampleBytes (R.playedOf (now (bundle .entry)) (now (curves .entry)) from (eventsOf (now (script .entry))) .samples))) ⌝ }
+    requires { ⌜ (judgeLentOf (lentOf (now bundle) (now curves)) ≡ Done) × (validOf from ≡ true) × (R.judgeScriptOf (now script) (length (now output)) ≡ Done) ⌝ }
+    ensures { λ r. ⌜ r ≡ W.playEnd 0 0 (R.playedOf (lentOf (now (bundle .entry)) (now (curves .entry))) from (eventsOf (now (script .entry)))) ⌝ }
+    ensures { λ _. ⌜ now (output .exit) ≡ P.playPut (now (output .entry)) (R.playedOf (lentOf (now (bundle .entry)) (now (curves .entry))) from (eventsOf (now (script .entry)))) ⌝ }
 {
-    let judged = judge_state(bundle, from);
+    let judged = refresh::judge_controls(bundle, from);
     let answer = judged.answer;
     if answers::is_done(answer) {
         let count = wire::u32_at(script, 0) as usize;
@@ -513,9 +473,9 @@ pub fn run(
     script: &[u8],
     output: &mut [u8],
 ) -> Ended
-    ensures { λ r. ⌜ r ≡ W.endedOf (R.runOf (now (bundle .entry)) (now (curves .entry)) (now (state .entry)) (now (script .entry)) (now (output .entry))) ⌝ }
-    ensures { λ _. ⌜ now (state .exit) ≡ R.runOf (now (bundle .entry)) (now (curves .entry)) (now (state .entry)) (now (script .entry)) (now (output .entry)) .state ⌝ }
-    ensures { λ _. ⌜ now (output .exit) ≡ R.runOf (now (bundle .entry)) (now (curves .entry)) (now (state .entry)) (now (script .entry)) (now (output .entry)) .output ⌝ }
+    ensures { λ r. ⌜ r ≡ W.endedOf (R.runOf (lentOf (now (bundle .entry)) (now (curves .entry))) (now (state .entry)) (now (script .entry)) (now (output .entry))) ⌝ }
+    ensures { λ _. ⌜ now (state .exit) ≡ R.runOf (lentOf (now (bundle .entry)) (now (curves .entry))) (now (state .entry)) (now (script .entry)) (now (output .entry)) .state ⌝ }
+    ensures { λ _. ⌜ now (output .exit) ≡ R.runOf (lentOf (now (bundle .entry)) (now (curves .entry))) (now (state .entry)) (now (script .entry)) (now (output .entry)) .output ⌝ }
 {
     let lent = filter::judge_lent(bundle, curves);
     let control::DecodedState::Valid(from) = State::decode(state) else {

@@ -66,7 +66,8 @@ unfolding finiteAfter
 settled-or-not a true h = h refl
 settled-or-not a false h = refl
 
-settled-finite : (a : Advanced) → T (fits binary32 (a .state .«band_state»)) → T (fits binary32 (a .state .«low_state»)) → fits binary32 (a .state .«filter_source_energy») ≡ true → inDomain a ≡ true → finiteFloatsOf (a .state) ≡ true
+settled-finite : (a : Advanced) → T (fits binary32 (a .state .«band_state»)) → T (fits binary32 (a .state .«low_state»))
+    → fits binary32 (a .state .«filter_source_energy») ≡ true → inDomain a ≡ true → finiteFloatsOf (a .state) ≡ true
 unfolding inDomain finiteFloatsOf finiteF32Of
 settled-finite a p q r h =
     let s = a .state in
@@ -90,22 +91,22 @@ module _ (driven : Float) (k : Coefficients) where
   unfolding advanceOf
   energy-stays s e = e
 
-  substep-kept : (s : IntegratorState) → fits binary32 (s .«filter_source_energy») ≡ true → finiteAfter (substepOf s driven k) ≡ true
+  substep-valid : (s : IntegratorState) → fits binary32 (s .«filter_source_energy») ≡ true → finiteAfter (substepOf s driven k) ≡ true
   unfolding substepOf
-  substep-kept s e = settled-or-not (advanceOf s driven k) (inDomain (advanceOf s driven k)) (settled-finite (advanceOf s driven k) (band-fits s) (low-fits s) (energy-stays s e))
+  substep-valid s e = settled-or-not (advanceOf s driven k) (inDomain (advanceOf s driven k)) (settled-finite (advanceOf s driven k) (band-fits s) (low-fits s) (energy-stays s e))
 
-  then-kept : (b : Substeps) → finiteAfter b ≡ true → finiteAfter (thenOf b driven k) ≡ true
+  then-valid : (b : Substeps) → finiteAfter b ≡ true → finiteAfter (thenOf b driven k) ≡ true
   unfolding finiteAfter thenOf
-  then-kept (Settled a) h = substep-kept (a .state) (energy-fits (a .state) h)
-  then-kept NotFinite h = refl
+  then-valid (Settled a) h = substep-valid (a .state) (energy-fits (a .state) h)
+  then-valid NotFinite h = refl
 
-  four-kept : (s : IntegratorState) → fits binary32 (s .«filter_source_energy») ≡ true → finiteAfter (fourSubstepsOf s driven k) ≡ true
+  four-valid : (s : IntegratorState) → fits binary32 (s .«filter_source_energy») ≡ true → finiteAfter (fourSubstepsOf s driven k) ≡ true
   unfolding fourSubstepsOf
-  four-kept s e = then-kept _ (then-kept _ (then-kept _ (substep-kept s e)))
+  four-valid s e = then-valid _ (then-valid _ (then-valid _ (substep-valid s e)))
 
-moved-kept : (f : FilterControls) (s : IntegratorState) (input energy : Float) → fits binary32 energy ≡ true → finiteAfter (movedOf f s input energy) ≡ true
+moved-valid : (f : FilterControls) (s : IntegratorState) (input energy : Float) → fits binary32 energy ≡ true → finiteAfter (movedOf f s input energy) ≡ true
 unfolding movedOf
-moved-kept f s input energy e = four-kept _ _ _ e
+moved-valid f s input energy e = four-valid _ _ _ e
 
 -- ---- the sample
 
@@ -113,22 +114,22 @@ either : (t : Bool) (x y : Sampled) → finiteTaken x ≡ true → finiteTaken y
 either true x y p q = p
 either false x y p q = q
 
-state-kept : (o : Outputs) (s : IntegratorState) → finiteFloatsOf s ≡ true → finiteTaken (Taken o s) ≡ true
+state-valid : (o : Outputs) (s : IntegratorState) → finiteFloatsOf s ≡ true → finiteTaken (Taken o s) ≡ true
 unfolding finiteTaken
-state-kept o s h = h
+state-valid o s h = h
 
-refused-kept : (a : Answer) → finiteTaken (Refused a) ≡ true
+refused-valid : (a : Answer) → finiteTaken (Refused a) ≡ true
 unfolding finiteTaken
-refused-kept a = refl
+refused-valid a = refl
 
-taken-kept : (c : ControlCache) (count mode : ℕ) (b : Substeps) → finiteAfter b ≡ true → finiteTaken (takenOf c count mode b) ≡ true
+taken-valid : (c : ControlCache) (count mode : ℕ) (b : Substeps) → finiteAfter b ≡ true → finiteTaken (takenOf c count mode b) ≡ true
 unfolding finiteAfter takenOf
-taken-kept c count mode NotFinite h = refused-kept Domain
-taken-kept c count mode (Settled a) h =
+taken-valid c count mode NotFinite h = refused-valid Domain
+taken-valid c count mode (Settled a) h =
     let o = a .outputs in
     let selected = selectFilterOutputOf c count mode o in
     let outputs : Outputs = record { high = o .«high_pass»; band = o .«band_pass»; low = o .«low_pass»; selected = selected } in
-    either (finite selected) (Taken outputs (a .state)) (Refused Domain) (state-kept outputs (a .state) h) (refused-kept Domain)
+    either (finite selected) (Taken outputs (a .state)) (Refused Domain) (state-valid outputs (a .state) h) (refused-valid Domain)
 
 rested : (t : Bool) (s : IntegratorState) (b : Substeps) → finiteFloatsOf s ≡ true → finiteAfter b ≡ true → finiteAfter (cond t (atRestOf s) b) ≡ true
 unfolding finiteAfter
@@ -136,20 +137,20 @@ rested true s b p q = p
 rested false s b p q = q
 
 module _ (bundle curves : List ℕ) (slot : ℕ) (t : MixingTopology) (s : IntegratorState) (sum energy : Float) where
-  core-kept : (f : FilterControls) → finiteFloatsOf s ≡ true → finiteAfter (advanceFilterCoreOf bundle curves slot t f s sum energy) ≡ true
+  core-valid : (f : FilterControls) → finiteFloatsOf s ≡ true → finiteAfter (advanceFilterCoreOf bundle curves slot t f s sum energy) ≡ true
   unfolding advanceFilterCoreOf
-  core-kept f h =
+  core-valid f h =
       let tracked = s .«filter_source_energy» in
       let fed = fedEnergyOf (t .«filter_input_count») (t .«filter_input_reciprocal») energy in
       let input = summerTransferOf bundle curves slot t sum ⊗ K.FILTER-INPUT-GAIN in
       rested (isIdleOf (t .«filter_input_count») s) s (movedOf f s input (trackedEnergyOf tracked fed)) h
-      (moved-kept f s input (trackedEnergyOf tracked fed) (holds (fits binary32 (trackedEnergyOf tracked fed)) (add-fits binary32 tracked (K.FILTER-SOURCE-ENERGY-TRACKING ⊗ (fed ⊖ tracked)))))
+      (moved-valid f s input (trackedEnergyOf tracked fed) (holds (fits binary32 (trackedEnergyOf tracked fed)) (add-fits binary32 tracked (K.FILTER-SOURCE-ENERGY-TRACKING ⊗ (fed ⊖ tracked)))))
 
   -- the state after a sample, where it was taken
-  pub sample-kept : (c : ControlCache) (mode : ℕ) → finiteFloatsOf s ≡ true → finiteTaken (filterSampleOf bundle curves slot t c mode s sum energy) ≡ true
+  pub sample-valid : (c : ControlCache) (mode : ℕ) → finiteFloatsOf s ≡ true → finiteTaken (filterSampleOf bundle curves slot t c mode s sum energy) ≡ true
   unfolding filterSampleOf
-  sample-kept c mode h =
+  sample-valid c mode h =
       let judged = judgeSampleOf bundle curves slot t s sum energy in
       let count = t .«filter_output_count» in
       let moved = advanceFilterCoreOf bundle curves slot t (c .filter) s sum energy in
-      either (isDoneOf judged) (takenOf c count mode moved) (Refused judged) (taken-kept c count mode moved (core-kept (c .filter) h)) (refused-kept judged)
+      either (isDoneOf judged) (takenOf c count mode moved) (Refused judged) (taken-valid c count mode moved (core-valid (c .filter) h)) (refused-valid judged)

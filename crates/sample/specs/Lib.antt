@@ -1,2 +1,2 @@
 pub mod Sample
-pub mod Kept
+pub mod Parts

@@ -145,12 +145,20 @@ selectFilterOutputOf c count mode o =
 
 -- ---- the sample
 
--- 5, 9, and 3 where the sample is not idle
+-- 5
+abbrev pub judgeInputOf : Float → Float → Answer
+judgeInputOf sum energy = unlessOf (finite sum && finite energy) InputNotFinite
+
+-- 9
+abbrev pub judgeMixerCountOf : MixingTopology → Answer
+judgeMixerCountOf t = unlessOf (leb (t .«mixer_input_count») 7) MixerInputs
+
+-- 3: an idle sample reads nothing
+abbrev pub judgeReadsOf : List ℕ → List ℕ → ℕ → MixingTopology → IntegratorState → Float → Answer
+judgeReadsOf bundle curves slot t s sum = cond (isIdleOf (t .«filter_input_count») s) Done (judgeSummerOf bundle curves slot t sum)
+
 unfoldable pub judgeSampleOf : List ℕ → List ℕ → ℕ → MixingTopology → IntegratorState → Float → Float → Answer
-judgeSampleOf bundle curves slot t s sum energy =
-    firstOf (unlessOf (finite sum && finite energy) InputNotFinite)
-    (firstOf (unlessOf (leb (t .«mixer_input_count») 7) MixerInputs)
-    (cond (isIdleOf (t .«filter_input_count») s) Done (judgeSummerOf bundle curves slot t sum)))
+judgeSampleOf bundle curves slot t s sum energy = firstOf (judgeInputOf sum energy) (firstOf (judgeMixerCountOf t) (judgeReadsOf bundle curves slot t s sum))
 
 -- the four numbers that a sample gives are finite
 abbrev pub outputsFinite : Outputs → Bool

@@ -4,7 +4,7 @@ ghost use Prim.Native.Nat.{_≤_};
 ghost use mathlib.Core.List.{[]};
 ghost use Rattle.response.specs.Position.{operatingPositionOf};
 ghost use Rattle.sample.specs.Sample as S;
-ghost use Rattle.sample.specs.Kept as K;
+ghost use Rattle.sample.specs.Parts as P;
 use answers::Answer;
 use bundle::Read;
 use controls::ControlCache;
@@ -12,8 +12,8 @@ use integrator::Coefficients;
 use integrator::FilterOutputs;
 use integrator::IntegratorState;
 use integrator::Substeps;
-use kept::CoreControls;
 use mixing::MixingTopology;
+use refresh::CoreControls;
 use response::TablePosition;
 
 // What a sample gives: the core's three outputs and what the mode selects of them.
@@ -90,9 +90,9 @@ pub fn judge_summer(
     answers::first(curve, curves::judge_summer_resting_output(bundle, inputs))
 }
 
-// The summer's output at rest for a topology: a run keeps it until the routing changes.
+// The summer's output at rest for a topology: the samples of a run share it until the routing changes.
 pub fn rest_of(bundle: &[u8], topology: MixingTopology) -> Read
-    ensures { λ r. ⌜ r ≡ K.restOf (now (bundle .entry)) topology ⌝ }
+    ensures { λ r. ⌜ r ≡ P.restOf (now (bundle .entry)) topology ⌝ }
 {
     curves::read_resting_output(bundle, summer_inputs(topology.filter_input_count))
 }
@@ -112,7 +112,7 @@ fn summed(
     rest: Read,
     input_sum: f32,
 ) -> CoreInput
-    ensures { λ r. ⌜ r ≡ K.summedOf (now (curves .entry)) slot topology rest «input_sum» ⌝ }
+    ensures { λ r. ⌜ r ≡ P.summedOf (now (curves .entry)) slot topology rest «input_sum» ⌝ }
 {
     let curve = curves::read_curve(curves, slot, average(topology, input_sum));
     match curve {
@@ -191,7 +191,7 @@ fn moved(
     energy: f32,
 ) -> Substeps
     requires { ⌜ at ≡ operatingPositionOf input (s .«band_state») (s .«low_state») ⌝ }
-    ensures { λ r. ⌜ r ≡ S.movedOf (K.filterOf (now (gains .entry)) (now («input_drives» .entry)) (now («feedback_drives» .entry)) core) s input energy ⌝ }
+    ensures { λ r. ⌜ r ≡ S.movedOf (P.filterOf (now (gains .entry)) (now («input_drives» .entry)) (now («feedback_drives» .entry)) core) s input energy ⌝ }
 {
     let feedback_drive = between_bins(feedback_drives, at) * core.resonance_feedback_scale;
     let input_drive = between_bins(input_drives, at);
@@ -243,7 +243,7 @@ fn mode_sum(m: u8, low: f32, band: f32, high: f32) -> f32
 }
 
 fn mixed(core: CoreControls, mode: u8, o: FilterOutputs) -> f32
-    ensures { λ r. ⌜ r ≡ S.mixedOf (K.filterOf [] [] [] core) mode o ⌝ }
+    ensures { λ r. ⌜ r ≡ S.mixedOf (P.filterOf [] [] [] core) mode o ⌝ }
 {
     let quiescent = response::filter_mode_quiescent_level();
     let polarity = constants::mode_polarity();
@@ -268,7 +268,7 @@ fn select_filter_output(
     mode: u8,
     o: FilterOutputs,
 ) -> f32
-    ensures { λ r. ⌜ r ≡ S.selectFilterOutputOf (K.cacheOf [] [] [] core «mode_output_gain») count mode o ⌝ }
+    ensures { λ r. ⌜ r ≡ S.selectFilterOutputOf (P.cacheOf [] [] [] core «mode_output_gain») count mode o ⌝ }
 {
     let resting = response::filter_mode_quiescent_level()
         * floats::of_u16(selected_outputs(count) as u16);
@@ -285,7 +285,7 @@ fn taken(
     mode: u8,
     moved: Substeps,
 ) -> Sampled
-    ensures { λ r. ⌜ r ≡ S.takenOf (K.cacheOf [] [] [] core «mode_output_gain») count mode moved ⌝ }
+    ensures { λ r. ⌜ r ≡ S.takenOf (P.cacheOf [] [] [] core «mode_output_gain») count mode moved ⌝ }
 {
     let Substeps::Settled(a) = moved else {
         return Sampled::Refused {
@@ -312,7 +312,7 @@ fn taken(
 }
 
 // Whether the sum and the energy are finite and the mixer's inputs at most 7, then what the summer gives.
-fn feed(
+fn core_input(
     curves: &[u8],
     slot: u8,
     topology: MixingTopology,
@@ -321,7 +321,7 @@ fn feed(
     input_sum: f32,
     source_energy: f32,
 ) -> CoreInput
-    ensures { λ r. ⌜ r ≡ K.coreInputOf (now (curves .entry)) slot topology rest s «input_sum» «source_energy» ⌝ }
+    ensures { λ r. ⌜ r ≡ P.coreInputOf (now (curves .entry)) slot topology rest s «input_sum» «source_energy» ⌝ }
 {
     if floats::is_finite(input_sum) & floats::is_finite(source_energy) {
         if topology.mixer_input_count <= 7 {
@@ -335,9 +335,9 @@ fn feed(
     CoreInput::Refused(Answer::InputNotFinite)
 }
 
-// One sample of the filter on kept parts as they are handed in, the summer's rest among them. The operating bin is guessed from `earlier`, capacitors that are
+// One sample of the filter on the parts of the controls, with the summer's rest worked out before. The operating bin is guessed from `earlier`, capacitors that are
 // there long before those of `s`: what they are does not change the sample, only how soon its tables are read.
-pub fn sample_kept(
+pub fn sample_from_parts(
     curves: &[u8],
     slot: u8,
     topology: MixingTopology,
@@ -353,10 +353,12 @@ pub fn sample_kept(
     input_sum: f32,
     source_energy: f32,
 ) -> Sampled
-    ensures { λ r. ⌜ r ≡ K.sampleKeptOf (now (curves .entry)) slot topology (K.cacheOf (now (gains .entry)) (now («input_drives» .entry)) (now («feedback_drives» .entry)) core «mode_output_gain») rest mode s «input_sum» «source_energy» ⌝ }
+    ensures { λ r. ⌜ r ≡ P.sampleFromPartsOf (now (curves .entry)) slot topology
+        (P.cacheOf (now (gains .entry)) (now («input_drives» .entry)) (now («feedback_drives» .entry)) core «mode_output_gain»)
+        rest mode s «input_sum» «source_energy» ⌝ }
 {
     let count = topology.filter_output_count;
-    let fed = feed(curves, slot, topology, rest, s, input_sum, source_energy);
+    let fed = core_input(curves, slot, topology, rest, s, input_sum, source_energy);
     match fed {
         CoreInput::Idle => taken(core, mode_output_gain, count, mode, at_rest(s)),
         CoreInput::Refused(answer) => Sampled::Refused { answer },
@@ -384,7 +386,7 @@ pub fn sample_kept(
 }
 
 // One sample of the filter on the topology and the controls that are handed in, with the slot of the summer's curve.
-pub fn sample(
+pub fn filter_sample(
     bundle: &[u8],
     curves: &[u8],
     slot: u8,
@@ -401,14 +403,14 @@ pub fn sample(
     let gains = f.integrator_gain;
     let input_drives = f.input_drive;
     let feedback_drives = f.feedback_drive;
-    sample_kept(
+    sample_from_parts(
         curves,
         slot,
         topology,
         &gains,
         &input_drives,
         &feedback_drives,
-        kept::core_controls(f),
+        refresh::core_controls(f),
         controls.mode_output_gain,
         rest_of(bundle, topology),
         mode,

@@ -1,3 +1,4 @@
 pub mod Wire
 pub mod First
 pub mod Inner
+pub mod Text

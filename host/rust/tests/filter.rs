@@ -133,6 +133,32 @@ fn the_writes_are_those_of_the_cases() {
     assert_eq!(after(&[Event::CutoffHigh(9), Event::Mode(0xff), Event::Reset]), State::start());
 }
 
+/// The indented blocks of the example in docs/FORMATS.md, as bytes: header, script, sample and state.
+fn example() -> Vec<Vec<u8>> {
+    let page = include_str!("../../../docs/FORMATS.md").split("## An example").nth(1).expect("a page with an example");
+    let blocks = page.split("\n\n").filter(|block| block.starts_with("    "));
+    blocks.map(|block| block.split_whitespace().map(|byte| u8::from_str_radix(byte, 16).expect("a byte")).collect()).collect()
+}
+
+#[test]
+fn the_example_of_the_formats() {
+    let example = example();
+    let [header, script, sample, block] = &example[..] else { panic!("{} blocks", example.len()) };
+    assert_eq!(header[..], bytes()[..56]);
+    let (mut state, mut output) = (State::start(), [0xaa; 20]);
+    let done = run_bytes(&bundle(), curves(), &mut state, script, &mut output).expect("a run to the end");
+    assert_eq!((done.events, done.samples), (5, 1));
+    assert_eq!((&output[..16], &output[16..]), (&sample[..], &[0xaa; 4][..]));
+    assert_eq!(state.as_bytes()[..], block[..]);
+
+    let (mut script, mut state, mut output) = (script.clone(), State::start(), [0xaa; 20]);
+    script[60..64].copy_from_slice(&f32::INFINITY.to_le_bytes());
+    let stop = run_bytes(&bundle(), curves(), &mut state, &script, &mut output).expect_err("a stop");
+    assert_eq!((stop.refusal.number(), stop.events, stop.samples), (5, 4, 0));
+    assert_eq!(output, [0xaa; 20]);
+    assert_eq!((&state.as_bytes()[..12], &state.as_bytes()[12..]), (&block[..12], &[0; 12][..]));
+}
+
 #[test]
 fn cut_equals_uncut() {
     let events = song();

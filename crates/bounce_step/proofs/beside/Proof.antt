@@ -18,7 +18,7 @@ same-length c = search needs
 returns : tie.Need-returns
 returns c =
     let second = c .before .before .push2 .ensures in
-    (second .0, grown-then _ _ _ _ _ _ _ (c .before .before .before .before .before .before .before .push .ensures .1) (second .1) (search needs))
+    (second .0, grown-then _ _ _ _ _ _ _ _ (search needs) (c .before .before .before .before .before .before .before .push .ensures .1) (second .1))
 
 pub beside-spec : {M : Type 1} → statement M
 beside-spec =

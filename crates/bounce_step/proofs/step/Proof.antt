@@ -6,8 +6,8 @@ use Rattle.bounce_step.proofs.step.Tie as tie
 run-requires : tie.Need-run-requires
 run-requires c κs = search needs
 
-line-requires : tie.Need-line-requires
-line-requires c κs = search needs
+script-line-requires : tie.Need-script-line-requires
+script-line-requires c κs = search needs
 
 report-requires : tie.Need-report-requires
 report-requires c κs = search needs
@@ -27,23 +27,15 @@ same-length-3 c = search needs
 returns : tie.Need-returns
 returns c =
     let ran = c .before .before .before .before .before .before .before .before .before .before .run .ensures in
-    let told = c .before .before .before .before .line .ensures in (
-      simp (c .before .report .ensures, ran .0),
-      (
-        ran .1 .0,
-        (
-          rw (ran .0, ran .1 .1),
-          (rw (ran .0) at (told .1), (samples-count _ _ _ _ _ (ran .0) (ran .1 .1) (search needs), told .0)),
-        ),
-      ),
-    )
+    let told = c .before .before .before .before .script-line .ensures in
+    (simp (c .before .report .ensures, told .1 .0, told .1 .1, ran .0, ran .1 .0, ran .1 .1), (samples-count _ _ _ _ _ (ran .0) (ran .1 .1) (search needs), told .0))
 
 pub step-spec : {M : Type 1} → statement M
 step-spec =
     tie.close
     (tie.spec
     run-requires
-    line-requires
+    script-line-requires
     report-requires
     mul-t18
     same-length

@@ -55,16 +55,24 @@ flag-requires-8 : tie.Need-flag-requires-8
 flag-requires-8 c κs = search needs
 
 digit-requires : tie.Need-digit-requires
-digit-requires c κs = let u = c .before .before .before .before .before .before .before .before .before .before in filter-digit (u .before .args .routing) (u .before .args .mode) (u .update .ensures)
+digit-requires c κs =
+    let u = c .before .before .before .before .before .before .before .before .before .before in
+    filter-digit (u .before .args .routing) (u .before .args .mode) (u .update .ensures)
 
 digit-requires-2 : tie.Need-digit-requires-2
-digit-requires-2 c κs = let u = c .before .before .before .before .before .before .before .before .before .before .before in bypass-digit (u .before .args .routing) (u .before .args .mode) (u .update .ensures)
+digit-requires-2 c κs =
+    let u = c .before .before .before .before .before .before .before .before .before .before .before in
+    bypass-digit (u .before .args .routing) (u .before .args .mode) (u .update .ensures)
 
 digit-requires-3 : tie.Need-digit-requires-3
-digit-requires-3 c κs = let u = c .before .before .before .before .before .before .before .before .before .before .before .before in output-digit (u .before .args .routing) (u .before .args .mode) (u .update .ensures)
+digit-requires-3 c κs =
+    let u = c .before .before .before .before .before .before .before .before .before .before .before .before in
+    output-digit (u .before .args .routing) (u .before .args .mode) (u .update .ensures)
 
 digit-requires-4 : tie.Need-digit-requires-4
-digit-requires-4 c κs = let u = c .before .before .before .before .before .before .before .before .before .before .before .before .before in mixer-digit (u .before .args .routing) (u .before .args .mode) (u .update .ensures)
+digit-requires-4 c κs =
+    let u = c .before .before .before .before .before .before .before .before .before .before .before .before .before in
+    mixer-digit (u .before .args .routing) (u .before .args .mode) (u .update .ensures)
 
 returns : tie.Need-returns
 returns c =

@@ -21,7 +21,9 @@ same-length : tie.Need-same-length
 same-length c = search needs
 
 returns : tie.Need-returns
-returns c = simp (← c .before .before .before .before .before .before .before .before .decode .ensures, c .before .before .before .before .before .before .decoded .given .1, ← c .before .before .before .before .write .ensures) (c .before .before .encode .ensures)
+returns c =
+    let written = c .before .before .before .before in
+    simp (← written .before .before .before .before .decode .ensures, written .before .before .decoded .given .1, ← written .write .ensures) (c .before .before .encode .ensures)
 
 same-length-2 : tie.Need-same-length-2
 same-length-2 c = search needs

@@ -37,7 +37,9 @@ returns-4 c = simp (c .before .match .keys4) (c .write-mode-and-volume .ensures)
 
 returns-5 : tie.Need-returns-5
 unfolding writeOf
-returns-5 c = simp (ne-eqb _ _ (c .before .match .rest .0 .0 .0 .1), ne-eqb _ _ (c .before .match .rest .0 .0 .1), ne-eqb _ _ (c .before .match .rest .0 .1), ne-eqb _ _ (c .before .match .rest .1)) (c .reset .ensures)
+returns-5 c =
+    let other = c .before .match .rest in
+    simp (ne-eqb _ _ (other .0 .0 .0 .1), ne-eqb _ _ (other .0 .0 .1), ne-eqb _ _ (other .0 .1), ne-eqb _ _ (other .1)) (c .reset .ensures)
 
 pub write-spec : {M : Type 1} → statement M
 write-spec =

@@ -1,4 +1,4 @@
-use Rattle.kept.specs.Kept.{coreRefreshedOf}
+use Rattle.refresh.specs.Refresh.{refreshCoreOf}
 use Rattle.run.specs.Parts.{partsOf}
 use borrow.Author.Needs.{needs}
 use Rattle.run.proofs.parts_of.Statement.{statement}
@@ -7,14 +7,14 @@ use Rattle.run.proofs.parts_of.Tie as tie
 core-of-requires : tie.Need-core-of-requires
 core-of-requires c κs = search needs
 
-topology-of-requires : tie.Need-topology-of-requires
-topology-of-requires c κs = search needs
+fresh-topology-requires : tie.Need-fresh-topology-requires
+fresh-topology-requires c κs = search needs
 
 returns : tie.Need-returns
-unfolding partsOf coreRefreshedOf
+unfolding partsOf refreshCoreOf
 returns c =
     let k = c .before .before .before in
-    simp (c .topology-of .ensures, k .core-of .ensures, k .before .before .pre .0, k .before .before .pre .1)
+    simp (c .fresh-topology .ensures, k .core-of .ensures, k .before .before .pre .gained, k .before .before .pre .rested)
 
 pub parts-of-spec : {M : Type 1} → statement M
-parts-of-spec = tie.close (tie.spec core-of-requires topology-of-requires returns)
+parts-of-spec = tie.close (tie.spec core-of-requires fresh-topology-requires returns)

@@ -5,19 +5,20 @@ use lib.ListN.{length}
 use borrow.Author.Needs.{needs}
 use borrow.Author.Tests.{not-true, not-false}
 use Rattle.wire.proofs.Laws.{length-putAt}
+use Rattle.filter.specs.Lent.{lentOf}
 use Rattle.run.proofs.Loop.{Turn, sofar-start, at-end, row-goes, row-stops, moves-go, moves-stop, turn-moves, moves-gain, rest-told, rest-here}
 use Rattle.run.proofs.play.Statement.{statement}
 use Rattle.run.proofs.play.Tie as tie
 
 abbrev Inv-loop : tie.InvT-loop
 Inv-loop bundle curves given script count output₀ resting₀ state₀ gain₀ samples₀ i₀ output resting state gain samples i =
-    Turn bundle curves script count state₀ output₀ output resting state gain samples i
+    Turn (lentOf bundle curves) script count state₀ output₀ output resting state gain samples i
 
 abbrev μ-loop : tie.MeasureT-loop
 μ-loop bundle curves given script count output₀ resting₀ state₀ gain₀ samples₀ i₀ output resting state gain samples i = count - i
 
-topology-of-requires : tie.Need-topology-of-requires Inv-loop μ-loop
-topology-of-requires c κs = search needs
+fresh-topology-requires : tie.Need-fresh-topology-requires Inv-loop μ-loop
+fresh-topology-requires c κs = search needs
 
 resting-of-requires : tie.Need-resting-of-requires Inv-loop μ-loop
 resting-of-requires c κs = search needs
@@ -26,16 +27,18 @@ loop-holds : tie.Need-loop-holds Inv-loop μ-loop
 loop-holds c =
     let z = c .before .before .before .before .before .before .pre in
     record {
-      far = sofar-start _ _ _ _ _ _ (record { valid = z .2; judged = z .3 }) (z .4) (z .5);
-      gained = z .6;
+      far = sofar-start _ _ _ _ _ (record { valid = z .1 .1 .0 .valid; judged = z .1 .1 .0 .judged }) (z .0 .readable) (let r = z .1 .0 .room in omega arith);
+      gained = z .1 .1 .1 .gained;
       rested = rest-told _ (c .resting-of .ensures);
     }
 
 play-changes-requires : tie.Need-play-changes-requires Inv-loop μ-loop
 play-changes-requires c κs =
     let l = c .before in
-    let far = l .loop .inv .far in
-    (far .within, l .before .before .before .before .before .before .before .pre .0, far .good .valid, far .readable, l .loop .inv .gained)
+    let far = l .loop .inv .far in (
+      record { within = far .within; few = l .before .before .before .before .before .before .before .pre .0 .few; readable = far .readable },
+      record { valid = far .good .valid; gained = l .loop .inv .gained },
+    )
 
 is-done-requires : tie.Need-is-done-requires Inv-loop μ-loop
 is-done-requires c κs = search needs
@@ -48,10 +51,11 @@ returns c =
     let d = c .before in
     let p = d .before .before in
     let l = p .before .before in
-    moves-stop _ _ _ _ _ _ (l .before .before .before .before .before .before .before .pre .1) _ _ _ _ (l .loop .inv .far) (p .play-changes .ensures) (d .is-done .ensures) (not-true (d .is-done .result) (c .if1 .taken))
+    moves-stop _ _ _ _ _ (l .before .before .before .before .before .before .before .pre .1 .1 .0 .ready) _ _ _ _ (l .loop .inv .far) (p .play-changes .ensures)
+    (d .is-done .ensures) (not-true (d .is-done .result) (c .if1 .taken))
 
-topology-of-requires-2 : tie.Need-topology-of-requires-2 Inv-loop μ-loop
-topology-of-requires-2 c κs = search needs
+fresh-topology-requires-2 : tie.Need-fresh-topology-requires-2 Inv-loop μ-loop
+fresh-topology-requires-2 c κs = search needs
 
 resting-from-requires : tie.Need-resting-from-requires Inv-loop μ-loop
 resting-from-requires c κs = c .before .before .before .before .before .before .loop .inv .rested
@@ -63,11 +67,16 @@ play-samples-requires c κs =
     let d = e .before in
     let m = d .before .before in
     let l = m .before .before in
-    let lent = l .before .before .before .before .before .before .before .pre .1 in
+    let ready = l .before .before .before .before .before .before .before .pre .1 .1 .0 .ready in
     let far = l .loop .inv .far in
     let done = not-false (d .is-done .result) (e .if1 .left) in
-    let then = moves-go _ _ _ _ _ _ lent _ _ _ _ far (m .play-changes .ensures) (d .is-done .ensures) done in
-    (then .within, l .before .before .before .before .before .before .before .pre .0, then .few, then .readable, then .room, moves-gain _ _ _ (m .play-changes .ensures), rest-here _ (m .play-changes .result .state) (r .resting-from .ensures) (r .before .topology-of2 .ensures))
+    let then = moves-go _ _ _ _ _ ready _ _ _ _ far (m .play-changes .ensures) (d .is-done .ensures) done in (
+      record { within = then .within; few = l .before .before .before .before .before .before .before .pre .0 .few; readable = then .readable },
+      (
+        record { fewer = then .few; room = then .room },
+        record { gained = moves-gain _ _ _ (m .play-changes .ensures); rested = rest-here _ (m .play-changes .result .state) (r .resting-from .ensures) (r .before .fresh-topology2 .ensures) },
+      ),
+    )
 
 is-done-requires-2 : tie.Need-is-done-requires-2 Inv-loop μ-loop
 is-done-requires-2 c κs = search needs
@@ -84,11 +93,11 @@ returns-2 c =
     let d = e .before in
     let m = d .before .before in
     let l = m .before .before in
-    let lent = l .before .before .before .before .before .before .before .pre .1 in
+    let ready = l .before .before .before .before .before .before .before .pre .1 .1 .0 .ready in
     let far = l .loop .inv .far in
     let done = not-false (d .is-done .result) (e .if1 .left) in
-    let then = moves-go _ _ _ _ _ _ lent _ _ _ _ far (m .play-changes .ensures) (d .is-done .ensures) done in
-    row-stops _ _ _ _ _ _ lent _ _ _ _ then (p .play-samples .ensures .0) (p .play-samples .ensures .1) (c .before .is-done2 .ensures) (not-true (c .before .is-done2 .result) (c .if2 .taken))
+    let then = moves-go _ _ _ _ _ ready _ _ _ _ far (m .play-changes .ensures) (d .is-done .ensures) done in
+    row-stops _ _ _ _ _ ready _ _ _ _ then (p .play-samples .ensures .0) (p .play-samples .ensures .1) (c .before .is-done2 .ensures) (not-true (c .before .is-done2 .result) (c .if2 .taken))
 
 loop-less : tie.Need-loop-less Inv-loop μ-loop
 loop-less c =
@@ -97,13 +106,14 @@ loop-less c =
     let d = e .before in
     let m = d .before .before in
     let l = m .before .before in
-    let lent = l .before .before .before .before .before .before .before .pre .1 in
+    let ready = l .before .before .before .before .before .before .before .pre .1 .1 .0 .ready in
     let far = l .loop .inv .far in
     let done = not-false (d .is-done .result) (e .if1 .left) in
-    let then = moves-go _ _ _ _ _ _ lent _ _ _ _ far (m .play-changes .ensures) (d .is-done .ensures) done in
+    let then = moves-go _ _ _ _ _ ready _ _ _ _ far (m .play-changes .ensures) (d .is-done .ensures) done in
     let last = not-false (c .before .is-done2 .result) (c .if2 .left) in
-    let moves = turn-moves _ _ _ _ _ _ lent _ _ _ _ far (m .play-changes .ensures) (m .before .loop-test .taken) (d .is-done .ensures) done then (p .play-samples .ensures .0) (p .play-samples .ensures .1) (c .before .is-done2 .ensures) last in
-    let within = row-goes _ _ _ _ _ _ lent _ _ _ _ then (p .play-samples .ensures .0) (p .play-samples .ensures .1) (c .before .is-done2 .ensures) last .within in
+    let moves = turn-moves _ _ _ _ _ ready _ _ _ _ far (m .play-changes .ensures) (m .before .loop-test .taken) (d .is-done .ensures) done then
+    (p .play-samples .ensures .0) (p .play-samples .ensures .1) (c .before .is-done2 .ensures) last in
+    let within = row-goes _ _ _ _ _ ready _ _ _ _ then (p .play-samples .ensures .0) (p .play-samples .ensures .1) (c .before .is-done2 .ensures) last .within in
     omega arith
 
 loop-again : tie.Need-loop-again Inv-loop μ-loop
@@ -113,12 +123,12 @@ loop-again c =
     let d = e .before in
     let m = d .before .before in
     let l = m .before .before in
-    let lent = l .before .before .before .before .before .before .before .pre .1 in
+    let ready = l .before .before .before .before .before .before .before .pre .1 .1 .0 .ready in
     let far = l .loop .inv .far in
     let done = not-false (d .is-done .result) (e .if1 .left) in
-    let then = moves-go _ _ _ _ _ _ lent _ _ _ _ far (m .play-changes .ensures) (d .is-done .ensures) done in
+    let then = moves-go _ _ _ _ _ ready _ _ _ _ far (m .play-changes .ensures) (d .is-done .ensures) done in
     record {
-      far = row-goes _ _ _ _ _ _ lent _ _ _ _ then (p .play-samples .ensures .0) (p .play-samples .ensures .1) (c .before .is-done2 .ensures) (not-false (c .before .is-done2 .result) (c .if2 .left));
+      far = row-goes _ _ _ _ _ ready _ _ _ _ then (p .play-samples .ensures .0) (p .play-samples .ensures .1) (c .before .is-done2 .ensures) (not-false (c .before .is-done2 .result) (c .if2 .left));
       gained = moves-gain _ _ _ (m .play-changes .ensures);
       rested = rest-told _ (p .before .before .resting-from .ensures);
     }
@@ -127,7 +137,7 @@ same-length-3 : tie.Need-same-length-3 Inv-loop μ-loop
 same-length-3 c = c .before .loop .inv .far .long
 
 returns-3 : tie.Need-returns-3 Inv-loop μ-loop
-returns-3 c = at-end _ _ _ _ _ _ (c .before .before .before .before .before .before .before .before .pre .1) _ _ _ _ (c .before .loop .inv .far) (c .loop-test .left)
+returns-3 c = at-end _ _ _ _ _ (c .before .before .before .before .before .before .before .before .pre .1 .1 .0 .ready) _ _ _ _ (c .before .loop .inv .far) (c .loop-test .left)
 
 pub play-spec : {M : Type 1} → statement M
 play-spec =
@@ -135,14 +145,14 @@ play-spec =
     (tie.spec
     Inv-loop
     μ-loop
-    topology-of-requires
+    fresh-topology-requires
     resting-of-requires
     loop-holds
     play-changes-requires
     is-done-requires
     same-length
     returns
-    topology-of-requires-2
+    fresh-topology-requires-2
     resting-from-requires
     play-samples-requires
     is-done-requires-2

@@ -15,7 +15,7 @@ abbrev μ-loop : tie.MeasureT-loop
 loop-holds : tie.Need-loop-holds Inv-loop μ-loop
 loop-holds c =
     let z = c .before .before .pre in
-    sofar-start _ _ _ _ _ (z .0) (z .2) (z .3) (z .4)
+    sofar-start _ _ _ _ _ (z .0 .within) (z .1 .valid) (z .0 .readable) (z .1 .gained)
 
 mul-event-at : tie.Need-mul-event-at Inv-loop μ-loop
 mul-event-at c = search needs
@@ -51,8 +51,8 @@ returns-2 c =
 next-state-requires : tie.Need-next-state-requires Inv-loop μ-loop
 next-state-requires c κs = search needs
 
-judge-state-requires : tie.Need-judge-state-requires Inv-loop μ-loop
-judge-state-requires c κs = search needs
+judge-controls-requires : tie.Need-judge-controls-requires Inv-loop μ-loop
+judge-controls-requires c κs = search needs
 
 is-done-requires : tie.Need-is-done-requires Inv-loop μ-loop
 is-done-requires c κs = search needs
@@ -60,7 +60,7 @@ is-done-requires c κs = search needs
 add-i : tie.Need-add-i Inv-loop μ-loop
 add-i c =
     let more = c .before .before .before .before .before .before .before .before .before .before .loop-test .taken in
-    let most = c .before .before .before .before .before .before .before .before .before .before .before .before .before .before .pre .1 in
+    let most = c .before .before .before .before .before .before .before .before .before .before .before .before .before .before .pre .0 .few in
     record { fits = omega arith }
 
 loop-less : tie.Need-loop-less Inv-loop μ-loop
@@ -74,7 +74,9 @@ loop-again c =
     let v = a .before .before in
     let e = v .before .before in
     let l = e .before .before in
-    moved _ _ _ _ _ _ _ _ (l .loop .inv) (e .before .loop-test .taken) (v .event .given .0 .0) (sym (e .event-at .ensures) ∙ v .event .given .1) (a .asks .ensures) (c .before .before .before .before .if1 .left) (c .before .before .before .next-state .ensures) (c .before .before .judge-state .ensures) (c .before .is-done .ensures) (c .if2 .taken)
+    moved _ _ _ _ _ _ _ _ (l .loop .inv) (e .before .loop-test .taken) (v .event .given .0 .0) (sym (e .event-at .ensures) ∙ v .event .given .1) (a .asks .ensures)
+    (c .before .before .before .before .if1 .left) (c .before .before .before .next-state .ensures) (c .before .before .judge-controls .ensures)
+    (c .before .is-done .ensures) (c .if2 .taken)
 
 returns-3 : tie.Need-returns-3 Inv-loop μ-loop
 returns-3 c =
@@ -82,7 +84,9 @@ returns-3 c =
     let v = a .before .before in
     let e = v .before .before in
     let l = e .before .before in
-    refused _ _ _ _ _ _ _ _ (l .loop .inv) (e .before .loop-test .taken) (v .event .given .0 .0) (sym (e .event-at .ensures) ∙ v .event .given .1) (a .asks .ensures) (c .before .before .before .before .if1 .left) (c .before .before .before .next-state .ensures) (c .before .before .judge-state .ensures) (c .before .is-done .ensures) (c .if2 .left)
+    refused _ _ _ _ _ _ _ _ (l .loop .inv) (e .before .loop-test .taken) (v .event .given .0 .0) (sym (e .event-at .ensures) ∙ v .event .given .1) (a .asks .ensures)
+    (c .before .before .before .before .if1 .left) (c .before .before .before .next-state .ensures) (c .before .before .judge-controls .ensures)
+    (c .before .is-done .ensures) (c .if2 .left)
 
 returns-4 : tie.Need-returns-4 Inv-loop μ-loop
 returns-4 c = at-end _ _ _ _ _ _ _ _ (c .before .loop .inv) (c .loop-test .left)
@@ -103,7 +107,7 @@ play-changes-spec =
     asks-requires
     returns-2
     next-state-requires
-    judge-state-requires
+    judge-controls-requires
     is-done-requires
     add-i
     loop-less

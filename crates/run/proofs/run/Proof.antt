@@ -32,7 +32,8 @@ same-length c = search needs
 returns : tie.Need-returns
 returns c =
     let lent = c .before .before .before .before .before .before .judge-lent .ensures in
-    rw (c .turned-back .ensures) (invalid-refused _ _ _ _ _ (c .before .before .before .before .decode .ensures) (c .before .before .enum-told .given .1) (c .before .first .ensures ∙ ap (λ (l : Answer). firstOf l Argument) lent))
+    rw (c .turned-back .ensures)
+    (invalid-refused _ _ _ _ (c .before .before .before .before .decode .ensures) (c .before .before .enum-told .given .1) (c .before .first .ensures ∙ ap (λ (l : Answer). firstOf l Argument) lent))
 
 judge-script-requires : tie.Need-judge-script-requires
 judge-script-requires c κs = search needs
@@ -49,7 +50,7 @@ play-from-requires c κs =
     let v = j .before .before .before in
     let d = v .before .before in
     let is = simp (d .before .before .judge-lent .ensures, j .before .judge-script .ensures) at (j .first2 .ensures) in
-    valid-fine _ _ _ _ _ (d .decode .ensures) (v .from .given .1) _ is (done-is _ (sym (c .before .before .is-done .ensures) ∙ c .before .if1 .taken))
+    valid-fine _ _ _ _ (d .decode .ensures) (v .from .given .1) _ is (done-is _ (sym (c .before .before .is-done .ensures) ∙ c .before .if1 .taken))
 
 encode-requires : tie.Need-encode-requires
 encode-requires c κs = search needs
@@ -68,7 +69,7 @@ returns-2 c =
     let d = v .before .before in
     let is = simp (d .before .before .judge-lent .ensures, j .before .judge-script .ensures) at (j .first2 .ensures) in
     let done = done-is _ (sym (p .before .before .before .is-done .ensures) ∙ p .before .before .if1 .taken) in
-    valid-done _ _ _ _ _ (d .decode .ensures) (v .from .given .1) _ is done (p .play-from .ensures .0) (p .play-from .ensures .1) (c .before .before .encode .ensures)
+    valid-done _ _ _ _ (d .decode .ensures) (v .from .given .1) _ is done (p .play-from .ensures .0) (p .play-from .ensures .1) (c .before .before .encode .ensures)
 
 turned-back-requires-2 : tie.Need-turned-back-requires-2
 turned-back-requires-2 c κs = search needs
@@ -82,7 +83,7 @@ returns-3 c =
     let v = j .before .before .before in
     let d = v .before .before in
     let is = simp (d .before .before .judge-lent .ensures, j .before .judge-script .ensures) at (j .first2 .ensures) in
-    rw (c .turned-back2 .ensures) (run-refused _ _ _ _ _ (valid-judged _ _ _ _ _ (d .decode .ensures) (v .from .given .1) _ is) (sym (c .before .before .is-done .ensures) ∙ c .before .if1 .left))
+    rw (c .turned-back2 .ensures) (run-refused _ _ _ _ (valid-judged _ _ _ _ (d .decode .ensures) (v .from .given .1) _ is) (sym (c .before .before .is-done .ensures) ∙ c .before .if1 .left))
 
 pub run-spec : {M : Type 1} → statement M
 run-spec =

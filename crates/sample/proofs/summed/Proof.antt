@@ -1,4 +1,4 @@
-use Rattle.sample.specs.Kept.{aboveOf}
+use Rattle.sample.specs.Parts.{aboveOf}
 use borrow.Author.Needs.{needs}
 use Rattle.sample.proofs.summed.Statement.{statement}
 use Rattle.sample.proofs.summed.Tie as tie

@@ -32,9 +32,9 @@ returns c =
     let second = c .before .before .before .before .before .before .before .before .before .before .before .push .ensures in
     let third = c .before .before .before .before .before .before .before .push-number2 .ensures in
     let fourth = c .before .before .push2 .ensures in
-    let two = grown-then _ _ _ _ _ _ _ (first .1) (second .1) (search needs) in
-    let three = grown-then _ _ _ _ _ _ _ two (third .1) (search needs) in
-    (fourth .0, grown-then _ _ _ _ _ _ _ three (fourth .1) (search needs))
+    let two = grown-then _ _ _ _ _ _ _ _ (search needs) (first .1) (second .1) in
+    let three = grown-then _ _ _ _ _ _ _ _ (search needs) two (third .1) in
+    (fourth .0, grown-then _ _ _ _ _ _ _ _ (search needs) three (fourth .1))
 
 pub push-counts-spec : {M : Type 1} → statement M
 push-counts-spec =

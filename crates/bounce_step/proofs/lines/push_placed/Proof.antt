@@ -25,8 +25,8 @@ returns c =
     let first = c .before .before .before .before .before .before .before .before .before .before .before .push in
     let second = c .before .before .before .before .before .before .push2 in
     let third = c .before .before .push-number in
-    let two = grown-then _ _ _ _ _ _ _ (first .ensures .1) (second .ensures .1) (search needs) in
-    (third .ensures .0, grown-then _ _ _ _ _ _ _ two (third .ensures .1) (search needs))
+    let two = grown-then _ _ _ _ _ _ _ _ (search needs) (first .ensures .1) (second .ensures .1) in
+    (third .ensures .0, grown-then _ _ _ _ _ _ _ _ (search needs) two (third .ensures .1))
 
 pub push-placed-spec : {M : Type 1} → statement M
 push-placed-spec =

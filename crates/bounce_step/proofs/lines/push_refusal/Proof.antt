@@ -31,8 +31,9 @@ returns c =
     let first = c .before .before .before .before .before .before .before .before .before .before .before .push-number .ensures in
     let second = c .before .before .before .before .before .before .push .ensures in
     let third = c .before .before .push-words .ensures in
-    let two = grown-then _ _ _ _ _ _ _ (first .1) (second .1) (search needs) in
-    (third .0, rw (c .before .before .before .before .before .before .before .before .before .before .before .before .before .report .ensures) at (grown-then _ _ _ _ _ _ _ two (third .1) (search needs)))
+    let two = grown-then _ _ _ _ _ _ _ _ (search needs) (first .1) (second .1) in
+    let reported = c .before .before .before .before .before .before .before .before .before .before .before .before .before .report .ensures in
+    (third .0, rw reported at (grown-then _ _ _ _ _ _ _ _ (search needs) two (third .1)))
 
 pub push-refusal-spec : {M : Type 1} → statement M
 push-refusal-spec =

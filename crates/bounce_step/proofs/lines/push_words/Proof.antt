@@ -140,14 +140,18 @@ same-length-4 c = search needs
 
 returns-4 : tie.Need-returns-4
 unfolding wordsOf
-returns-4 c = (c .before .before .push-placed2 .ensures .0, rw (c .before .before .before .before .before .before .before .before .answer2 .given .1, c .before .before .before .before .before .enum-told3 .given .1) (c .before .before .push-placed2 .ensures .1))
+returns-4 c =
+    let arm = c .before .before .before .before .before in
+    (c .before .before .push-placed2 .ensures .0, rw (arm .before .before .before .answer2 .given .1, arm .enum-told3 .given .1) (c .before .before .push-placed2 .ensures .1))
 
 same-length-5 : tie.Need-same-length-5
 same-length-5 c = search needs
 
 returns-5 : tie.Need-returns-5
 unfolding wordsOf
-returns-5 c = (c .before .before .push-placed3 .ensures .0, rw (c .before .before .before .before .before .before .before .before .answer2 .given .1, c .before .before .before .before .before .enum-told4 .given .1) (c .before .before .push-placed3 .ensures .1))
+returns-5 c =
+    let arm = c .before .before .before .before .before in
+    (c .before .before .push-placed3 .ensures .0, rw (arm .before .before .before .answer2 .given .1, arm .enum-told4 .given .1) (c .before .before .push-placed3 .ensures .1))
 
 same-length-6 : tie.Need-same-length-6
 same-length-6 c = search needs

@@ -1,4 +1,3 @@
-use mathlib.Core.Path.{_∙_}
 use borrow.Author.Needs.{needs}
 use Rattle.bounce_step.proofs.Laws.{decimal-is}
 use Rattle.bounce_step.proofs.text.push_number.Statement.{statement}
@@ -23,7 +22,7 @@ returns : tie.Need-returns
 returns c =
     let p = c .before .before .push in
     let d = c .before .before .before .before .before .decimal in
-    (p .ensures .0, p .ensures .1 ∙ rw (d .ensures .1 .1, decimal-is _ _ (c .before .before .before .before .before .before .before .before .fits .number .fits) (d .ensures .1 .0)))
+    (p .ensures .0, rw (d .ensures .1 .1, decimal-is _ _ (c .before .before .before .before .before .before .before .before .fits .number .fits) (d .ensures .1 .0)) at (p .ensures .1))
 
 pub push-number-spec : {M : Type 1} → statement M
 push-number-spec =

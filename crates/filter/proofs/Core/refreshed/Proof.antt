@@ -1,4 +1,4 @@
-use Rattle.filter.specs.Core.{refreshedOf}
+use Rattle.filter.proofs.Laws.{settle-refreshed}
 use borrow.Author.Needs.{needs}
 use Rattle.filter.proofs.Core.refreshed.Statement.{statement}
 use Rattle.filter.proofs.Core.refreshed.Tie as tie
@@ -10,8 +10,7 @@ settled-requires : tie.Need-settled-requires
 settled-requires c κs = search needs
 
 returns : tie.Need-returns
-unfolding refreshedOf
-returns c = simp (c .settled .ensures, c .before .before .refresh .ensures)
+returns c = settle-refreshed _ _ _ _ (c .before .before .refresh .ensures) (c .settled .ensures)
 
 pub refreshed-spec : {M : Type 1} → statement M
 refreshed-spec = tie.close (tie.spec refresh-requires settled-requires returns)

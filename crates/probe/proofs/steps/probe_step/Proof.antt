@@ -30,7 +30,9 @@ returns : tie.Need-returns
 returns c = simp (← c .before .before .before .before .before .decode .ensures, c .before .before .before .decoded .given .1, ← c .before .sampled .ensures) (c .numbers .ensures)
 
 returns-2 : tie.Need-returns-2
-returns-2 c = simp (← c .before .before .before .before .before .decode .ensures, c .before .before .before .enum-told .given .1, ← c .before .before .new .ensures, ← c .before .sampled2 .ensures) (c .numbers2 .ensures)
+returns-2 c =
+    let arm = c .before .before .before in
+    simp (← arm .before .before .decode .ensures, arm .enum-told .given .1, ← c .before .before .new .ensures, ← c .before .sampled2 .ensures) (c .numbers2 .ensures)
 
 pub probe-step-spec : {M : Type 1} → statement M
 probe-step-spec =

@@ -58,7 +58,8 @@ returns-3 : tie.Need-returns-3 Inv-loop μ-loop
 returns-3 c =
     let l = c .before in
     let a = l .before .before .before .before .before .args in
-    finished (now (a .r)) (a .place) (now (a .xs)) (l .loop .all) (l .before .before .if1 .left) (l .before .if2 .left) (at-end (now (a .r)) (a .place) (now (a .xs)) (l .loop .i) (l .loop .all) (c .loop-test .left) (l .loop .inv .1))
+    finished (now (a .r)) (a .place) (now (a .xs)) (l .loop .all) (l .before .before .if1 .left) (l .before .if2 .left)
+    (at-end (now (a .r)) (a .place) (now (a .xs)) (l .loop .i) (l .loop .all) (c .loop-test .left) (l .loop .inv .1))
 
 pub has-floats-spec : {M : Type 1} → statement M
 has-floats-spec =
