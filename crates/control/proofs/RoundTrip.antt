@@ -72,7 +72,16 @@ fields-block s h =
     let i = s .integrator in
     let d = within-fits (r .«cutoff_dac_displacement_codes») (k .displacement) in
     let f = three i (k .floats) in
-    rw (number 2 (r .cutoff) (omega (arith, k .cutoff)), number 2 (r .«cutoff_write_base») (omega (arith, k .base)), number 2 (ofZ w16 (r .«cutoff_dac_displacement_codes»)) (ofZ-fits w16 (r .«cutoff_dac_displacement_codes») d .fits), toZ-ofZ w16 (r .«cutoff_dac_displacement_codes») d, flag (r .«cutoff_low_pending»), float (i .«band_state») (f .1), float (i .«low_state») (f .2), float (i .«filter_source_energy») (f .3))
+    rw (
+      number 2 (r .cutoff) (omega (arith, k .cutoff)),
+      number 2 (r .«cutoff_write_base») (omega (arith, k .base)),
+      number 2 (ofZ w16 (r .«cutoff_dac_displacement_codes»)) (ofZ-fits w16 (r .«cutoff_dac_displacement_codes») d .fits),
+      toZ-ofZ w16 (r .«cutoff_dac_displacement_codes») d,
+      flag (r .«cutoff_low_pending»),
+      float (i .«band_state») (f .1),
+      float (i .«low_state») (f .2),
+      float (i .«filter_source_energy») (f .3),
+    )
 
 pending-at : (s : State) → byteAt (blockOf s) 6 ≡ boolByte (s .registers .«cutoff_low_pending»)
 unfolding blockOf bytesOf
@@ -145,7 +154,16 @@ unfolding blockOf fieldsOf
 block-fields b s c k =
     let l = k .long in
     let f = three (fieldsOf b .integrator) (valid-ranges (fieldsOf b) (rw (k .fields) (k .valid)) .floats) in
-    rw (bytesOf-numberAt 2 b 0 (omega arith) c, bytesOf-i16At b 2 c (omega arith), bytesOf-numberAt 2 b 4 (omega arith) c, flag-back (byteAt b 6) (k .pending), six-bytes b (omega arith) (k .zeroed), float-bytes b 12 c (omega arith) (f .1), float-bytes b 16 c (omega arith) (f .2), float-bytes b 20 c (omega arith) (f .3))
+    rw (
+      bytesOf-numberAt 2 b 0 (omega arith) c,
+      bytesOf-i16At b 2 c (omega arith),
+      bytesOf-numberAt 2 b 4 (omega arith) c,
+      flag-back (byteAt b 6) (k .pending),
+      six-bytes b (omega arith) (k .zeroed),
+      float-bytes b 12 c (omega arith) (f .1),
+      float-bytes b 16 c (omega arith) (f .2),
+      float-bytes b 20 c (omega arith) (f .3),
+    )
     (rw (← take-add 2 2 b, ← take-add 4 2 b, ← take-add 6 6 b, ← take-add 12 4 b, ← take-add 16 4 b, ← take-add 20 4 b) (take-all 24 b (omega arith)))
 
 -- Encoding a decoded block gives its bytes.

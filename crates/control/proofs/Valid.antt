@@ -14,7 +14,8 @@ use borrow.Author.Tests.{le-leb, leb-true, ltb-false}
 use Rattle.floats.specs.Floats.{clampOf}
 use Rattle.integrator.specs.declared.IntegratorState.{IntegratorState}
 use Rattle.control.specs.declared.State.{State}
-use Rattle.control.specs.Registers.{displacementOf, displacedOf, effectiveCutoffOf, startingState, withCutoff, withNibbles, writeCutoffLowOf, writeCutoffHighOf, writeSignalRoutingOf, writeModeAndVolumeOf}
+use Rattle.control.specs.Registers.{displacementOf, displacedOf, effectiveCutoffOf, startingState, withCutoff}
+use Rattle.control.specs.Registers.{withNibbles, writeCutoffLowOf, writeCutoffHighOf, writeSignalRoutingOf, writeModeAndVolumeOf}
 use Rattle.control.specs.Block.{validRegistersOf, finiteF32Of, finiteFloatsOf, validOf}
 
 -- ---- the displacement
@@ -96,7 +97,16 @@ valid-ranges s v =
 pub ranges-valid : (s : State) → Ranges s → validOf s ≡ true
 unfolding validOf validRegistersOf
 ranges-valid s k =
-    rw (le-leb _ _ (k .cutoff), le-leb _ _ (k .base), k .displacement .low, k .displacement .high, le-leb _ _ (k .resonance), le-leb _ _ (k .routing), le-leb _ _ (k .mode), le-leb _ _ (k .volume)) (k .floats)
+    rw (
+      le-leb _ _ (k .cutoff),
+      le-leb _ _ (k .base),
+      k .displacement .low,
+      k .displacement .high,
+      le-leb _ _ (k .resonance),
+      le-leb _ _ (k .routing),
+      le-leb _ _ (k .mode),
+      le-leb _ _ (k .volume),
+    ) (k .floats)
 
 -- The starting value, which the reset gives.
 pub starting-valid : validOf startingState ≡ true

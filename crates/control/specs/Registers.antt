@@ -2,7 +2,7 @@
 -- filter.rs, in the Rust's order).
 use Prim.Native.Nat.{ℕ, _+_, _*_, _/_, _%_, _^_}
 use mathlib.Core.Bool.{Bool, true, false, cond}
-use lib.IntN.{ℤ, pos, natAbs, _+ℤ_, _-ℤ_}
+use lib.IntN.{ℤ, pos, negsuc, natAbs, _+ℤ_, _-ℤ_}
 use lib.Signed.{ltZ}
 use lib.Ieee.{binary32, ofBits, ofInt, toSigned, mul, neg}
 use Rattle.floats.specs.Floats.{roundOf, clampOf}
@@ -48,6 +48,21 @@ cutoffHigh c = field 3 8 c
 abbrev pub cutoffLow : ℕ → ℕ
 cutoffLow c = field 0 3 c
 
+-- ---- the ends of the fields
+
+-- the largest cutoff, a code of 11 bits; the largest value of a field of 4 bits; the displacement's two ends, in codes
+abbrev pub cutoffMax : ℕ
+cutoffMax = 2047
+
+abbrev pub nibbleMax : ℕ
+nibbleMax = 15
+
+abbrev pub displacementMin : ℤ
+displacementMin = negsuc 56
+
+abbrev pub displacementMax : ℤ
+displacementMax = FILTER-CUTOFF-STEP-CHARGE-LIMIT-CODES
+
 -- ---- the cutoff DAC
 
 -- i32::from(next) - i32::from(previous)
@@ -64,7 +79,7 @@ displacementOf step =
 unfoldable pub displacedOf : ℕ → ℤ → ℕ
 displacedOf cutoff displacement =
     let sum = pos cutoff +ℤ displacement in
-    cond (ltZ sum (pos 0)) 0 (cond (ltZ (pos 2047) sum) 2047 (natAbs sum))
+    cond (ltZ sum (pos 0)) 0 (cond (ltZ (pos cutoffMax) sum) cutoffMax (natAbs sum))
 
 abbrev pub effectiveCutoffOf : State → ℕ
 effectiveCutoffOf s = displacedOf (s .registers .cutoff) (s .registers .«cutoff_dac_displacement_codes»)

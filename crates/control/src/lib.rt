@@ -1,6 +1,7 @@
 // The filter's registers, its state and the state's 24-byte block.
 ghost use mathlib.Core.Path.{_≡_};
-ghost use Rattle.control.specs.Registers.{startingRegisters, startingState, stepBetweenOf, displacementOf, displacedOf, previousCutoffOf, effectiveCutoffOf, writeCutoffLowOf, writeCutoffHighOf, writeSignalRoutingOf, writeModeAndVolumeOf};
+ghost use Rattle.control.specs.Registers.{startingRegisters, startingState, stepBetweenOf, displacementOf, displacedOf};
+ghost use Rattle.control.specs.Registers.{previousCutoffOf, effectiveCutoffOf, writeCutoffLowOf, writeCutoffHighOf, writeSignalRoutingOf, writeModeAndVolumeOf};
 ghost use Rattle.control.specs.Block.{validRegistersOf, finiteF32Of, finiteFloatsOf, validOf, blockOf, fieldsOf, decodeOf, encodeOf};
 use constants::FILTER_CUTOFF_STEP_CHARGE_GAIN;
 use constants::FILTER_CUTOFF_STEP_CHARGE_LIMIT_CODES;
@@ -54,8 +55,8 @@ fn displaced(cutoff: u16, displacement: i16) -> u16
     if displaced < 0 {
         return 0;
     }
-    if 2047 < displaced {
-        return 2047;
+    if (State::CUTOFF_MAX as i32) < displaced {
+        return State::CUTOFF_MAX;
     }
     displaced as u16
 }
@@ -74,15 +75,6 @@ fn finite_floats(i: IntegratorState) -> bool
 }
 
 impl FilterRegisters {
-    // The largest cutoff, a code of 11 bits; the largest value of a field of 4 bits; and the displacement's two ends.
-    pub const CUTOFF_MAX: u16 = 2047;
-
-    pub const NIBBLE_MAX: u8 = 15;
-
-    pub const DISPLACEMENT_MIN: i16 = -FILTER_CUTOFF_STEP_CHARGE_LIMIT_CODES;
-
-    pub const DISPLACEMENT_MAX: i16 = FILTER_CUTOFF_STEP_CHARGE_LIMIT_CODES;
-
     fn new() -> Self
         ensures { λ r. ⌜ r ≡ startingRegisters ⌝ }
     {
@@ -101,14 +93,14 @@ impl FilterRegisters {
     fn is_valid(self) -> bool
         ensures { λ r. ⌜ r ≡ validRegistersOf self ⌝ }
     {
-        ((self.cutoff <= FilterRegisters::CUTOFF_MAX)
-            & (self.cutoff_write_base <= FilterRegisters::CUTOFF_MAX)
-            & (FilterRegisters::DISPLACEMENT_MIN <= self.cutoff_dac_displacement_codes)
-            & (self.cutoff_dac_displacement_codes <= FilterRegisters::DISPLACEMENT_MAX))
-            & ((self.resonance <= FilterRegisters::NIBBLE_MAX)
-                & (self.routing <= FilterRegisters::NIBBLE_MAX)
-                & (self.mode <= FilterRegisters::NIBBLE_MAX)
-                & (self.volume <= FilterRegisters::NIBBLE_MAX))
+        ((self.cutoff <= State::CUTOFF_MAX)
+            & (self.cutoff_write_base <= State::CUTOFF_MAX)
+            & (State::DISPLACEMENT_MIN <= self.cutoff_dac_displacement_codes)
+            & (self.cutoff_dac_displacement_codes <= State::DISPLACEMENT_MAX))
+            & ((self.resonance <= State::NIBBLE_MAX)
+                & (self.routing <= State::NIBBLE_MAX)
+                & (self.mode <= State::NIBBLE_MAX)
+                & (self.volume <= State::NIBBLE_MAX))
     }
 
     // The code from which a write of FC HI steps: the one before a pending write of FC LO, if there is one.
@@ -126,6 +118,15 @@ impl FilterRegisters {
 impl State {
     // The length of a state's block.
     pub const BYTES: usize = 24;
+
+    // The largest cutoff, a code of 11 bits; the largest value of a field of 4 bits; and the displacement's two ends.
+    pub const CUTOFF_MAX: u16 = 2047;
+
+    pub const NIBBLE_MAX: u8 = 15;
+
+    pub const DISPLACEMENT_MIN: i16 = -FILTER_CUTOFF_STEP_CHARGE_LIMIT_CODES;
+
+    pub const DISPLACEMENT_MAX: i16 = FILTER_CUTOFF_STEP_CHARGE_LIMIT_CODES;
 
     pub fn new() -> Self
         ensures { λ r. ⌜ r ≡ startingState ⌝ }

@@ -4,7 +4,6 @@ use mathlib.Core.Bool.{Bool, true, false, _&&_}
 use mathlib.Core.List.{List}
 use Prim.Native.Nat.{ℕ, suc, _+_, _<_, _≤_}
 use native.Mathlib.Numerals.{add-one}
-use native.Mathlib.Omega.{arith}
 use lib.ListN.{length, getD, drop, drop-of-length-le}
 use lib.Seq.{drop-cons}
 use lib.Ieee.{Float, nan}
@@ -20,7 +19,8 @@ and-true true = refl
 and-true false = refl
 
 -- `all` is of the numbers before i
-pub one-more : (xs : List Float) (i : ℕ) (all r : Bool) → i < length xs → r ≡ finite (getD xs i nan) → allFinite xs ≡ (all && allFinite (drop i xs)) → allFinite xs ≡ ((all && r) && allFinite (drop (i + 1) xs))
+pub one-more : (xs : List Float) (i : ℕ) (all r : Bool) → i < length xs → r ≡ finite (getD xs i nan) → allFinite xs ≡ (all && allFinite (drop i xs))
+    → allFinite xs ≡ ((all && r) && allFinite (drop (i + 1) xs))
 one-more xs i all r h e p = p ∙ rw (add-one, drop-cons xs i nan, ← e) (and-assoc all r (allFinite (drop (suc i) xs)))
 
 pub at-end : (xs : List Float) (i : ℕ) (all : Bool) → length xs ≤ i → allFinite xs ≡ (all && allFinite (drop i xs)) → all ≡ allFinite xs

@@ -1,14 +1,13 @@
--- What the direct calls answer, each in the order of document 01's table: 1, 2, 4, 10, 5, 9, 3, 6 for what it takes.
+-- What the direct calls answer, each in the order of the table in docs/FORMATS.md: 1, 2, 4, 10, 5, 9, 3, 6 for what it takes.
 use Prim.Native.Nat.{ℕ, _%_}
 use mathlib.Core.Bool.{Bool, false, _&&_, cond}
 use mathlib.Core.List.{List, [], _∷_}
 use lib.Dec.{eqb, leb}
-use lib.ListN.{length}
 use lib.Ieee.{Float}
 use lib.Ieee.Scale.{finite}
-use Rattle.answers.specs.declared.Buffer.the-variants.{Bundle}
+use Rattle.answers.specs.declared.Buffer.the-variants.{Bundle, Curves}
 use Rattle.answers.specs.declared.Answer.{Answer}
-use Rattle.answers.specs.declared.Answer.the-variants.{CurvesLength, InputNotFinite, Domain, MixerInputs, Argument}
+use Rattle.answers.specs.declared.Answer.the-variants.{InputNotFinite, Domain, MixerInputs, Argument}
 use Rattle.answers.specs.Answers.{isDoneOf, firstOf, unlessOf}
 use Rattle.floats.specs.Arithmetic.{f32}
 use Rattle.integrator.specs.declared.IntegratorState.{IntegratorState}
@@ -24,11 +23,15 @@ use Rattle.mixing.specs.declared.MixingTopology.{MixingTopology}
 use Rattle.mixing.specs.Topology.{topologyOf}
 use Rattle.bundle.specs.Layout.{highpassLoadingPlace}
 use Rattle.bundle.specs.Opening.{checkOf, entryAt, judgePlacesOf}
+use Rattle.curves.specs.declared.AnalogueLoadPosition.{AnalogueLoadPosition}
+use Rattle.curves.specs.Sampling.{loadPositionOf, samplePlacesOf, sampleOf, sampleCurvePlacesOf, sampleCurveOf}
+use Rattle.curves.specs.Building.{judgeLengthOf}
 use Rattle.transfers.specs.Transfers.{mixerSlotOf, mixerTransferOf, judgeMixerOf, volumeSlotOf, volumeTransferOf, judgeVolumeOf}
 use Rattle.sample.specs.Sample.{summerSlotOf, summerTransferOf, judgeSummerOf}
 use Rattle.direct.specs.declared.Valued.{Valued}
 use Rattle.direct.specs.declared.Substepped.{Substepped}
 use Rattle.direct.specs.declared.Routed.{Routed}
+use Rattle.direct.specs.declared.Positioned.{Positioned}
 use Rattle.direct.specs.declared.Binned.{Binned}
 
 -- ---- what they share
@@ -39,8 +42,34 @@ judgedValueOf judged value =
     let answer = firstOf judged (unlessOf (finite value) Domain) in
     record { answer = answer; value = cond (isDoneOf answer) value (f32 0) }
 
-abbrev pub curvesLengthOf : List ℕ → Answer
-curvesLengthOf curves = unlessOf (eqb (length curves) 254076) CurvesLength
+-- ---- the analogue surface and its curves
+
+-- `load_position`: 10
+abbrev pub loadOr : Answer → AnalogueLoadPosition → AnalogueLoadPosition
+loadOr answer position = cond (isDoneOf answer) position (record { «lower_base» = 0; «upper_base» = 0; fraction = f32 0 })
+
+unfoldable pub loadPositionCallOf : Float → Positioned
+loadPositionCallOf conductance =
+    let answer = unlessOf (finite conductance) Argument in
+    record { answer = answer; position = loadOr answer (loadPositionOf conductance) }
+
+-- `sample`: 1, 2, 10, 3, 6
+unfoldable pub sampleCallOf : List ℕ → Float → Float → Valued
+sampleCallOf bundle conductance input =
+    judgedValueOf
+    (firstOf (checkOf bundle)
+    (firstOf (unlessOf (finite conductance && finite input) Argument)
+    (judgePlacesOf Bundle bundle (samplePlacesOf conductance input))))
+    (sampleOf bundle conductance input)
+
+-- `sample_curve`: 4, 10, 3, 6. A curve is a number of 0 to 30.
+unfoldable pub sampleCurveCallOf : List ℕ → ℕ → Float → Valued
+sampleCurveCallOf curves curve input =
+    judgedValueOf
+    (firstOf (judgeLengthOf curves)
+    (firstOf (unlessOf (leb curve 30 && finite input) Argument)
+    (judgePlacesOf Curves curves (sampleCurvePlacesOf curve input))))
+    (sampleCurveOf curves curve input)
 
 -- ---- the transfers
 
@@ -48,7 +77,7 @@ curvesLengthOf curves = unlessOf (eqb (length curves) 254076) CurvesLength
 unfoldable pub summerAnswerOf : List ℕ → List ℕ → MixingTopology → Float → Answer
 summerAnswerOf bundle curves t sum =
     firstOf (checkOf bundle)
-    (firstOf (curvesLengthOf curves)
+    (firstOf (judgeLengthOf curves)
     (firstOf (unlessOf (leb (t .«filter_input_count») 4 && finite (t .«summer_input_reciprocal»)) Argument)
     (firstOf (unlessOf (finite sum) InputNotFinite)
     (judgeSummerOf bundle curves (summerSlotOf t) t sum))))
@@ -59,7 +88,7 @@ summerTransferCallOf bundle curves t sum = judgedValueOf (summerAnswerOf bundle 
 -- `mixer_transfer`: 4, 10, 9, 3, 6
 unfoldable pub mixerAnswerOf : List ℕ → MixingTopology → Float → Answer
 mixerAnswerOf curves t sum =
-    firstOf (curvesLengthOf curves)
+    firstOf (judgeLengthOf curves)
     (firstOf (unlessOf (finite (t .«mixer_input_reciprocal») && finite sum) Argument)
     (firstOf (unlessOf (leb (t .«mixer_input_count») 7) MixerInputs)
     (judgeMixerOf curves (mixerSlotOf (t .«mixer_input_count»)) t sum)))
@@ -70,7 +99,7 @@ mixerTransferCallOf curves t sum = judgedValueOf (mixerAnswerOf curves t sum) (m
 -- `volume_transfer`: 4, 10, 3, 6
 unfoldable pub volumeAnswerOf : List ℕ → ℕ → Float → Answer
 volumeAnswerOf curves volume value =
-    firstOf (curvesLengthOf curves)
+    firstOf (judgeLengthOf curves)
     (firstOf (unlessOf (leb volume 15 && finite value) Argument)
     (judgeVolumeOf curves (volumeSlotOf volume) value))
 
@@ -92,8 +121,8 @@ finiteOutputsOf o = finite (o .«high_pass») && finite (o .«band_pass») && fi
 abbrev pub finiteCoefficientsOf : Coefficients → Bool
 finiteCoefficientsOf k = finite (k .damping) && finite (k .«feedback_drive») && finite (k .a1) && finite (k .a2) && finite (k .a3)
 
-abbrev pub advancedOf : Answer → Advanced → Advanced
-advancedOf answer advanced =
+abbrev pub advancedOr : Answer → Advanced → Advanced
+advancedOr answer advanced =
     cond (isDoneOf answer) advanced
     (record {
       outputs = record { «high_pass» = f32 0; «band_pass» = f32 0; «low_pass» = f32 0 };
@@ -110,7 +139,7 @@ advanceAnswerOf s driven-input k =
 unfoldable pub advanceCallOf : IntegratorState → Float → Coefficients → Substepped
 advanceCallOf s driven-input k =
     let answer = advanceAnswerOf s driven-input k in
-    record { answer = answer; advanced = advancedOf answer (advanceOf s driven-input k) }
+    record { answer = answer; advanced = advancedOr answer (advanceOf s driven-input k) }
 
 -- ---- the topology
 

@@ -1,9 +1,10 @@
-// The direct calls of the filter's parts, each refusing by document 01's table before it hands out a number. A refused call answers zeros.
+// The direct calls of the filter's parts, each refusing by the table of docs/FORMATS.md before it hands out a number. A refused call answers zeros.
 ghost use mathlib.Core.Path.{_≡_};
 ghost use Rattle.response.specs.Levels.{filterModeQuiescentLevelOf};
 ghost use Rattle.direct.specs.Calls as C;
 use answers::Answer;
 use answers::Buffer;
+use curves::AnalogueLoadPosition;
 use integrator::Advanced;
 use integrator::Coefficients;
 use integrator::FilterOutputs;
@@ -29,6 +30,12 @@ pub struct Routed {
     pub topology: MixingTopology,
 }
 
+// The two loads of the surface that a conductance lies between.
+pub struct Positioned {
+    pub answer: Answer,
+    pub position: AnalogueLoadPosition,
+}
+
 // The operating bins that a position lies between.
 pub struct Binned {
     pub answer: Answer,
@@ -38,7 +45,7 @@ pub struct Binned {
 // ---- what the calls share
 
 // The last refusal is the value's own.
-fn finished(judged: Answer, value: f32) -> Valued
+fn judged_value(judged: Answer, value: f32) -> Valued
     ensures { λ r. ⌜ r ≡ C.judgedValueOf judged value ⌝ }
 {
     let domain = answers::unless(floats::is_finite(value), Answer::Domain);
@@ -49,10 +56,53 @@ fn finished(judged: Answer, value: f32) -> Valued
     Valued { answer, value: 0.0 }
 }
 
-fn curves_length(curves: &[u8]) -> Answer
-    ensures { λ r. ⌜ r ≡ C.curvesLengthOf (now (curves .entry)) ⌝ }
+// ---- the analogue surface and its curves
+
+fn load_or(answer: Answer, position: AnalogueLoadPosition) -> AnalogueLoadPosition
+    ensures { λ r. ⌜ r ≡ C.loadOr answer position ⌝ }
 {
-    answers::unless(curves.len() == 254076, Answer::CurvesLength)
+    if answers::is_done(answer) {
+        return position;
+    }
+    AnalogueLoadPosition {
+        lower_base: 0,
+        upper_base: 0,
+        fraction: 0.0,
+    }
+}
+
+// The rows of the two loads that a conductance lies between. Refuses 10.
+pub fn load_position(conductance: f32) -> Positioned
+    ensures { λ r. ⌜ r ≡ C.loadPositionCallOf conductance ⌝ }
+{
+    let answer = answers::unless(floats::is_finite(conductance), Answer::Argument);
+    Positioned {
+        answer,
+        position: load_or(answer, curves::load_position(conductance)),
+    }
+}
+
+// The surface at a conductance and an input. Refuses 1, 2, 10, 3, 6.
+pub fn sample(bundle: &[u8], conductance: f32, input: f32) -> Valued
+    ensures { λ r. ⌜ r ≡ C.sampleCallOf (now (bundle .entry)) conductance input ⌝ }
+{
+    let value = curves::sample(bundle, conductance, input);
+    let known = floats::is_finite(conductance) & floats::is_finite(input);
+    let argument = answers::unless(known, Answer::Argument);
+    let entries = curves::judge_sample(bundle, conductance, input);
+    let judged = answers::first(argument, entries);
+    judged_value(answers::first(bundle::check(bundle), judged), value)
+}
+
+// A curve, 0 to 30, at an input. Refuses 4, 10, 3, 6.
+pub fn sample_curve(curves: &[u8], curve: u8, input: f32) -> Valued
+    ensures { λ r. ⌜ r ≡ C.sampleCurveCallOf (now (curves .entry)) curve input ⌝ }
+{
+    let value = curves::sample_curve(curves, curve, input);
+    let argument = answers::unless((curve <= 30) & floats::is_finite(input), Answer::Argument);
+    let entries = curves::judge_sample_curve(curves, curve, input);
+    let judged = answers::first(argument, entries);
+    judged_value(answers::first(curves::judge_length(curves), judged), value)
 }
 
 // ---- summer, mixer and volume
@@ -74,8 +124,8 @@ pub fn summer_transfer(
     let sum = answers::unless(floats::is_finite(input_sum), Answer::InputNotFinite);
     let entries = sample::judge_summer(bundle, curves, slot, topology, input_sum);
     let judged = answers::first(argument, answers::first(sum, entries));
-    let long = answers::first(curves_length(curves), judged);
-    finished(answers::first(bundle::check(bundle), long), value)
+    let long = answers::first(curves::judge_length(curves), judged);
+    judged_value(answers::first(bundle::check(bundle), long), value)
 }
 
 // The mixer's output for the sum of its inputs. Refuses 4, 10, 9, 3, 6.
@@ -89,7 +139,7 @@ pub fn mixer_transfer(curves: &[u8], topology: MixingTopology, input_sum: f32) -
     let count = answers::unless(topology.mixer_input_count <= 7, Answer::MixerInputs);
     let entries = transfers::judge_mixer(curves, slot, topology, input_sum);
     let judged = answers::first(argument, answers::first(count, entries));
-    finished(answers::first(curves_length(curves), judged), value)
+    judged_value(answers::first(curves::judge_length(curves), judged), value)
 }
 
 // The volume DAC's output for the mixer's. Refuses 4, 10, 3, 6.
@@ -101,7 +151,7 @@ pub fn volume_transfer(curves: &[u8], volume: u8, value: f32) -> Valued
     let argument = answers::unless((volume <= 15) & floats::is_finite(value), Answer::Argument);
     let entries = transfers::judge_volume(curves, slot, value);
     let judged = answers::first(argument, entries);
-    finished(answers::first(curves_length(curves), judged), output)
+    judged_value(answers::first(curves::judge_length(curves), judged), output)
 }
 
 // ---- the integrator
@@ -112,7 +162,7 @@ pub fn saturate(value: f32, drive: f32) -> Valued
 {
     let known = floats::is_finite(value) & floats::is_finite(drive);
     let argument = answers::unless(known, Answer::Argument);
-    finished(argument, IntegratorState::saturate(value, drive))
+    judged_value(argument, IntegratorState::saturate(value, drive))
 }
 
 fn finite_state(s: IntegratorState) -> bool
@@ -139,8 +189,8 @@ fn finite_coefficients(k: Coefficients) -> bool
         & floats::is_finite(k.a3)
 }
 
-fn advanced_of(answer: Answer, advanced: Advanced) -> Advanced
-    ensures { λ r. ⌜ r ≡ C.advancedOf answer advanced ⌝ }
+fn advanced_or(answer: Answer, advanced: Advanced) -> Advanced
+    ensures { λ r. ⌜ r ≡ C.advancedOr answer advanced ⌝ }
 {
     if answers::is_done(answer) {
         return advanced;
@@ -171,13 +221,13 @@ pub fn advance(state: IntegratorState, driven_input: f32, k: Coefficients) -> Su
     let answer = answers::first(answers::unless(known, Answer::Argument), domain);
     Substepped {
         answer,
-        advanced: advanced_of(answer, advanced),
+        advanced: advanced_or(answer, advanced),
     }
 }
 
 // ---- the topology
 
-fn topology_of(answer: Answer, topology: MixingTopology) -> MixingTopology
+fn topology_or(answer: Answer, topology: MixingTopology) -> MixingTopology
     ensures { λ r. ⌜ r ≡ C.topologyOr answer topology ⌝ }
 {
     if answers::is_done(answer) {
@@ -205,7 +255,7 @@ pub fn mixing_topology(routing: u8, mode: u8) -> Routed
     let answer = answers::unless((routing <= 15) & (mode <= 15), Answer::Argument);
     Routed {
         answer,
-        topology: topology_of(answer, MixingTopology::update(routing, mode)),
+        topology: topology_or(answer, MixingTopology::update(routing, mode)),
     }
 }
 
@@ -223,10 +273,10 @@ pub fn normalise_voltage(voltage: f32) -> Valued
     ensures { λ r. ⌜ r ≡ C.normaliseVoltageCallOf voltage ⌝ }
 {
     let argument = answers::unless(floats::is_finite(voltage), Answer::Argument);
-    finished(argument, response::normalise_voltage(voltage))
+    judged_value(argument, response::normalise_voltage(voltage))
 }
 
-fn position_of(answer: Answer, position: TablePosition) -> TablePosition
+fn bins_or(answer: Answer, position: TablePosition) -> TablePosition
     ensures { λ r. ⌜ r ≡ C.binsOr answer position ⌝ }
 {
     if answers::is_done(answer) {
@@ -247,7 +297,7 @@ pub fn operating_position(input: f32, band: f32, low: f32) -> Binned
     let answer = answers::unless(known, Answer::Argument);
     Binned {
         answer,
-        position: position_of(answer, response::operating_position(input, band, low)),
+        position: bins_or(answer, response::operating_position(input, band, low)),
     }
 }
 
@@ -256,7 +306,7 @@ pub fn volume_dac_conductance_code(volume: u8) -> Valued
     ensures { λ r. ⌜ r ≡ C.volumeDacConductanceCodeCallOf volume ⌝ }
 {
     let argument = answers::unless(volume <= 15, Answer::Argument);
-    finished(argument, response::volume_dac_conductance_code(volume))
+    judged_value(argument, response::volume_dac_conductance_code(volume))
 }
 
 // The operating point that a mode's outputs give the output node at the written cutoff. Refuses 10.
@@ -264,7 +314,7 @@ pub fn filter_output_common_mode(mode: u8, cutoff: u16) -> Valued
     ensures { λ r. ⌜ r ≡ C.filterOutputCommonModeCallOf mode cutoff ⌝ }
 {
     let argument = answers::unless((mode <= 15) & (cutoff <= 2047), Answer::Argument);
-    finished(argument, response::filter_output_common_mode(mode, cutoff))
+    judged_value(argument, response::filter_output_common_mode(mode, cutoff))
 }
 
 // The entry that the gain reads, in mode 4 alone.
@@ -287,5 +337,5 @@ pub fn filter_mode_output_gain(bundle: &[u8], mode: u8, resonance: u8, cutoff: u
     let known = (mode <= 15) & (resonance <= 15) & (cutoff <= 2047);
     let argument = answers::unless(known, Answer::Argument);
     let judged = answers::first(argument, judge_loading(bundle, mode, cutoff));
-    finished(answers::first(bundle::check(bundle), judged), gain)
+    judged_value(answers::first(bundle::check(bundle), judged), gain)
 }

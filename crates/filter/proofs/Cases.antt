@@ -1,15 +1,13 @@
 -- Document 01's cases, as rows of one computed check on the definitions. Its twelve starred ones come first, in its order.
 use Prim.Native.Nat.{ℕ}
 use mathlib.Core.Path.{_≡_, refl}
-use mathlib.Core.Bool.{Bool, cond}
+use mathlib.Core.Bool.{Bool}
 use mathlib.Core.List.{List, [], _∷_, _++_, map}
 use lib.IntN.{ℤ, pos, negsuc}
 use lib.Ieee.{Float, eq, lt, neg, ofInt, ofBits, toSigned, toUnsigned, mul, div, sub}
 use Rattle.floats.specs.Arithmetic.{f32}
 use Rattle.floats.specs.Floats.{roundOf}
-use Rattle.mixing.specs.declared.MixingTopology.{MixingTopology}
 use Rattle.mixing.specs.Topology.{one, topologyOf, reciprocalOf, filterCountOf, bypassCountOf, outputCountOf, mixerCountOf}
-use Rattle.curves.specs.declared.AnalogueLoadPosition.{AnalogueLoadPosition}
 use Rattle.curves.specs.Sampling.{loadPositionOf, inputPositionOf}
 use Rattle.control.specs.declared.State.{State}
 use Rattle.control.specs.Registers.{stepBetweenOf, displacementOf, displacedOf, effectiveCutoffOf, startingState, writeCutoffLowOf, writeCutoffHighOf}

@@ -1,8 +1,8 @@
 -- Demand 3 over every list of events: the core's calls, each given the core that the last one handed back, answer as the plain machine does, and after each
 -- of them all that is kept is as worked out afresh.
-use Prim.Native.Nat.{ℕ, zero, suc, _+_, _≤_, _<_}
+use Prim.Native.Nat.{ℕ, zero, suc, _+_, _≤_}
 use mathlib.Core.Path.{_≡_, refl, sym, ap, _∙_, subst}
-use mathlib.Core.Bool.{Bool, true, false, not, cond, _&&_, true≢false}
+use mathlib.Core.Bool.{Bool, true, false, not, cond, true≢false}
 use mathlib.Core.List.{List, [], _∷_}
 use native.Mathlib.Omega.{arith}
 use lib.Ieee.{Float, ofBits, ofInt, div}
@@ -38,7 +38,7 @@ use Rattle.filter.specs.declared.Core.{Core}
 use Rattle.filter.specs.declared.Fed.{Fed}
 use Rattle.filter.specs.Lent.{Lent, judgeLentOf}
 use Rattle.filter.specs.Core.{freshTopologyOf, coreOf, judgeCoreOf, countableOf, soundOf, settledOf, quietOf, withIntegrator, afterOf, coreStartOf, refreshedOf, reselectedOf}
-use Rattle.filter.specs.Core.{changeOf, takeOf, feedEventOf, judgeFeedOf, feedOf}
+use Rattle.filter.specs.Core.{changeOf, takeOf, feedEventOf, feedOf}
 use Rattle.filter.specs.Plain.{Plain, refusedAt, plainStart, plainChange, plainTaken, plainSample, plainStep, plainTrace}
 use Rattle.filter.specs.Lists.{coreTrace, shown, shownAll, Fresh, AllFresh}
 
@@ -157,7 +157,8 @@ taken-refuses c count mode (Settled a) = go (finite (selectFilterOutputOf c coun
     go true o i = refl
     go false o i = refl
 
-pub sample-refuses : (bundle curves : List ℕ) (slot : ℕ) (t : MixingTopology) (c : ControlCache) (mode : ℕ) (i : IntegratorState) (sum energy : Float) → refuses (filterSampleOf bundle curves slot t c mode i sum energy) ≡ true
+pub sample-refuses : (bundle curves : List ℕ) (slot : ℕ) (t : MixingTopology) (c : ControlCache) (mode : ℕ) (i : IntegratorState) (sum energy : Float)
+    → refuses (filterSampleOf bundle curves slot t c mode i sum energy) ≡ true
 unfolding filterSampleOf refuses
 sample-refuses bundle curves slot t c mode i sum energy =
     let judged = judgeSampleOf bundle curves slot t i sum energy in
@@ -186,7 +187,13 @@ unfolding topologyOf
 fresh-countable routing mode =
     let n = filterCountOf routing in
     let h = filter-most routing in
-    rw (le-leb n 4 h, le-leb (outputCountOf mode) 3 (output-most mode), reciprocal-finite n (omega (arith, h)), reciprocal-finite (2 + n) (omega (arith, h)), reciprocal-finite (mixerCountOf routing mode) (mixer-most routing mode)) refl
+    rw (
+      le-leb n 4 h,
+      le-leb (outputCountOf mode) 3 (output-most mode),
+      reciprocal-finite n (omega (arith, h)),
+      reciprocal-finite (2 + n) (omega (arith, h)),
+      reciprocal-finite (mixerCountOf routing mode) (mixer-most routing mode),
+    ) refl
 
 -- every core of a list is whole
 module _ (l : Lent) (s : State) (valid : validOf s ≡ true) (judged : judgeControlsOf (l .bundle) s ≡ Done) where

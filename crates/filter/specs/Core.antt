@@ -15,7 +15,7 @@ use Rattle.mixing.specs.declared.MixingTopology.{MixingTopology}
 use Rattle.mixing.specs.Topology.{topologyOf}
 use Rattle.bundle.specs.Opening.{checkOf}
 use Rattle.control.specs.declared.State.{State}
-use Rattle.control.specs.Registers.{startingState, effectiveCutoffOf, writeCutoffLowOf, writeCutoffHighOf, writeSignalRoutingOf, writeModeAndVolumeOf}
+use Rattle.control.specs.Registers.{cutoffMax, nibbleMax, startingState, effectiveCutoffOf, writeCutoffLowOf, writeCutoffHighOf, writeSignalRoutingOf, writeModeAndVolumeOf}
 use Rattle.control.specs.Block.{validOf}
 use Rattle.controls.specs.declared.ControlCache.{ControlCache}
 use Rattle.controls.specs.Controls.{refreshModeOutputGainOf, refreshRegisterOutputStateOf, controlsOf}
@@ -53,7 +53,7 @@ countableOf t =
     && finite (t .«mixer_input_reciprocal»)
 
 abbrev pub soundOf : ControlCache → Bool
-soundOf c = leb (c .filter .«effective_cutoff_index») 2047 && leb (c .filter .«resonance_index») 15 && finiteControlsOf c
+soundOf c = leb (c .filter .«effective_cutoff_index») cutoffMax && leb (c .filter .«resonance_index») nibbleMax && finiteControlsOf c
 
 unfoldable pub judgeCoreOf : Core → Answer
 judgeCoreOf k = unlessOf (validOf (k .state) && countableOf (k .topology) && soundOf (k .controls)) Argument

@@ -56,8 +56,8 @@ fn sound(controls: ControlCache) -> bool
     ensures { λ r. ⌜ r ≡ F.soundOf controls ⌝ }
 {
     let filter = controls.filter;
-    (filter.effective_cutoff_index <= 2047)
-        & (filter.resonance_index <= 15)
+    (filter.effective_cutoff_index <= State::CUTOFF_MAX as usize)
+        & (filter.resonance_index <= State::NIBBLE_MAX as usize)
         & controls::finite_controls(controls)
 }
 
@@ -80,13 +80,16 @@ fn settled(answer: Answer, old: Core, new: Core) -> Written
     Written { answer, core: old }
 }
 
-fn guarded(answer: Answer, old: Core, written: Written) -> Written
-    ensures { λ r. ⌜ r ≡ F.guardedOf answer old written ⌝ }
+fn guarded(answer: Answer, taken: Core, written: Written) -> Written
+    ensures { λ r. ⌜ r ≡ F.guardedOf answer taken written ⌝ }
 {
     if answers::is_done(answer) {
         return written;
     }
-    Written { answer, core: old }
+    Written {
+        answer,
+        core: taken,
+    }
 }
 
 fn quiet(written: Written) -> Fed
@@ -214,8 +217,8 @@ impl Core {
                 self.refreshed(bundle, state.write_cutoff_high(value), topology)
             }
             Event::Routing(value) => {
-                let next = state.write_signal_routing(value);
-                self.refreshed(bundle, next, fresh_topology(next))
+                let rerouted = state.write_signal_routing(value);
+                self.refreshed(bundle, rerouted, fresh_topology(rerouted))
             }
             Event::Mode(value) => {
                 let next = state.write_mode_and_volume(value);
@@ -229,8 +232,8 @@ impl Core {
                 core: self,
             },
             Event::Reset => {
-                let next = state.reset();
-                self.refreshed(bundle, next, fresh_topology(next))
+                let start = state.reset();
+                self.refreshed(bundle, start, fresh_topology(start))
             }
         }
     }

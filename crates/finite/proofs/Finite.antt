@@ -18,7 +18,8 @@ use Rattle.floats.proofs.Laws.{both}
 use Rattle.wire.proofs.Laws.{le-or-lt}
 use Rattle.control.specs.declared.FilterRegisters.{FilterRegisters}
 use Rattle.controls.specs.Judging.{finiteOutputOf}
-use Rattle.controls.specs.Controls.{refreshRegisterOutputStateOf, highPassLowCouplingOf, bandPassLowCouplingOf, resonancePartOf, feedbackScaleOf, modulationScaleOf, liftPositionOf, resonanceOutputGainOf}
+use Rattle.controls.specs.Controls.{refreshRegisterOutputStateOf, highPassLowCouplingOf, bandPassLowCouplingOf, resonancePartOf}
+use Rattle.controls.specs.Controls.{feedbackScaleOf, modulationScaleOf, liftPositionOf, resonanceOutputGainOf}
 
 -- ---- a cutoff of 16 bits, and a resonance or a volume of 8
 

@@ -8,7 +8,8 @@ use Rattle.floats.specs.Arithmetic.{f32}
 use Rattle.response.specs.Gain.{filterModeOutputGainOf, highpassLoadingOf}
 
 -- a mode other than 4 does not read the loading
-pub loading-unread : (mode resonance cutoff : ℕ) (loading other : Float) → filterModeOutputGainOf mode resonance cutoff (cond (eqb (mode % 8) 4) loading other) ≡ filterModeOutputGainOf mode resonance cutoff loading
+pub loading-unread : (mode resonance cutoff : ℕ) (loading other : Float)
+    → filterModeOutputGainOf mode resonance cutoff (cond (eqb (mode % 8) 4) loading other) ≡ filterModeOutputGainOf mode resonance cutoff loading
 unfolding filterModeOutputGainOf highpassLoadingOf
 loading-unread mode resonance cutoff loading other = rw (once (eqb (mode % 8) 4) loading other (f32 0x3f80_0000))
   where

@@ -1,7 +1,7 @@
 -- The controls judged by parts: of what `refresh_filter_controls` works out from usable entries every number is finite.
 use Prim.Native.Nat.{ℕ, _<_}
 use mathlib.Core.Path.{_≡_, refl, sym, ap, _∙_}
-use mathlib.Core.Bool.{Bool, true, false, cond, _&&_}
+use mathlib.Core.Bool.{Bool, true, false, cond}
 use mathlib.Core.List.{List}
 use native.Mathlib.Omega.{arith}
 use lib.Dec.{lit≤, ltb}
@@ -13,13 +13,13 @@ use lib.Ieee.{Float, nan, inf, fin, binary32, ofBits, ofInt, add, mul, div}
 use lib.Ieee.Scale.{finite}
 use Rattle.constants.specs.Drives.{driveOf, inputDriveOf, feedbackDriveOf, inputDrivesOf, feedbackDrivesOf}
 use Rattle.answers.specs.declared.Answer.{Answer}
-use Rattle.answers.specs.declared.Answer.the-variants.{Done, Domain}
+use Rattle.answers.specs.declared.Answer.the-variants.{Done}
 use Rattle.answers.specs.declared.Buffer.the-variants.{Bundle}
-use Rattle.answers.specs.Answers.{isDoneOf, firstOf, unlessOf}
+use Rattle.answers.specs.Answers.{isDoneOf, firstOf}
 use Rattle.answers.proofs.Laws.{done-is, first-done}
-use Rattle.wire.specs.Wire.{usableOf, usableAt, u32At}
+use Rattle.wire.specs.Wire.{usableOf, u32At}
 use Rattle.wire.proofs.Magnitude.{atMost, usable-is}
-use Rattle.bundle.specs.Opening.{entryAt, judgePlacesOf}
+use Rattle.bundle.specs.Opening.{entryAt}
 use Rattle.bundle.specs.declared.Read.the-variants.{Value, Refused}
 use Rattle.bundle.specs.Reading.{readOf}
 use Rattle.bundle.proofs.Laws.{judge-done}

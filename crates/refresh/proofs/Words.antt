@@ -43,10 +43,44 @@ module _ (bundle : List ℕ) (code resonance : ℕ) where
 
   pub gains-read : gainsOf words ≡ integratorGainOf bundle code resonance
   unfolding integratorGainOf
-  gains-read = simp (place-step code resonance 1, place-step code resonance 2, place-step code resonance 3, place-step code resonance 4, place-step code resonance 5, place-step code resonance 6, place-step code resonance 7, place-step code resonance 8, place-step code resonance 9, place-step code resonance 10, place-step code resonance 11, place-step code resonance 12, place-step code resonance 13, place-step code resonance 14, place-step code resonance 15)
+  gains-read =
+      simp (
+        place-step code resonance 1,
+        place-step code resonance 2,
+        place-step code resonance 3,
+        place-step code resonance 4,
+        place-step code resonance 5,
+        place-step code resonance 6,
+        place-step code resonance 7,
+        place-step code resonance 8,
+        place-step code resonance 9,
+        place-step code resonance 10,
+        place-step code resonance 11,
+        place-step code resonance 12,
+        place-step code resonance 13,
+        place-step code resonance 14,
+        place-step code resonance 15,
+      )
 
   words-read : words ≡ map (u32At bundle) places
-  words-read = simp (place-step code resonance 1, place-step code resonance 2, place-step code resonance 3, place-step code resonance 4, place-step code resonance 5, place-step code resonance 6, place-step code resonance 7, place-step code resonance 8, place-step code resonance 9, place-step code resonance 10, place-step code resonance 11, place-step code resonance 12, place-step code resonance 13, place-step code resonance 14, place-step code resonance 15)
+  words-read =
+      simp (
+        place-step code resonance 1,
+        place-step code resonance 2,
+        place-step code resonance 3,
+        place-step code resonance 4,
+        place-step code resonance 5,
+        place-step code resonance 6,
+        place-step code resonance 7,
+        place-step code resonance 8,
+        place-step code resonance 9,
+        place-step code resonance 10,
+        place-step code resonance 11,
+        place-step code resonance 12,
+        place-step code resonance 13,
+        place-step code resonance 14,
+        place-step code resonance 15,
+      )
 
   -- whether every entry is usable, by the words
   abbrev others : List ℕ

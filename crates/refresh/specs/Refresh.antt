@@ -1,8 +1,8 @@
 -- What the refresh calls give as the code makes it, by the part that a write changes, and what is refused of each part. The calls themselves are defined in
 -- crates/controls: Controls.antt and Judging.antt.
-use Prim.Native.Nat.{ℕ, _%_}
+use Prim.Native.Nat.{ℕ}
 use mathlib.Core.Bool.{Bool, false, cond, _&&_}
-use mathlib.Core.List.{List, [], _∷_}
+use mathlib.Core.List.{List}
 use lib.Dec.{eqb}
 use lib.IntN.{ℤ}
 use lib.ListN.{getD, replicate}

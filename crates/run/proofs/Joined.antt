@@ -41,7 +41,8 @@ module _ (lent : Lent) (s : State) (es : List Event) (ready : judgeLentOf lent �
   played-core = rw start-is (go (isDoneOf (judgeControlsOf (lent .bundle) s)) refl)
     where
       go : (d : Bool) → isDoneOf (judgeControlsOf (lent .bundle) s) ≡ d
-          → cond d (playOf lent s es) (stopped (judgeControlsOf (lent .bundle) s) s) ≡ cond d (upToRefusal s (shownAll es (coreTrace lent (coreStartOf lent s .core) es))) (stopped (judgeControlsOf (lent .bundle) s) s)
+          → cond d (playOf lent s es) (stopped (judgeControlsOf (lent .bundle) s) s)
+          ≡ cond d (upToRefusal s (shownAll es (coreTrace lent (coreStartOf lent s .core) es))) (stopped (judgeControlsOf (lent .bundle) s) s)
       go true h =
           let same = demand-3 lent s es .same (start-is ∙ done-is (judgeControlsOf (lent .bundle) s) h) in
           play-trace lent s es ∙ ap (upToRefusal s) (sym same)

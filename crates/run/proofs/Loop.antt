@@ -47,7 +47,7 @@ use Rattle.run.specs.declared.Resting.{Resting}
 use Rattle.run.specs.declared.Played.{Played}
 use Rattle.run.specs.Run.{Ran, stopped, went, playOf, sampleBytes}
 use Rattle.run.specs.Rows.{Samples, Moves, askedOf, noSamples, oneMore, rowOn, rowOf, movesOf, rowEnd, playEnd}
-use Rattle.run.specs.Parts.{partsOf, cacheOfParts, samplesFrom, samplesPut, movesFrom, movesEnd, restingOf}
+use Rattle.run.specs.Parts.{partsOf, cacheOfParts, samplesFrom, movesEnd, restingOf}
 use Rattle.run.proofs.Bytes.{length-outputs, outputs-append}
 use Rattle.run.proofs.Good.{Good, good-step}
 use Rattle.run.proofs.Moves.{MovesLaw, moves-law, moves-some}
@@ -154,8 +154,10 @@ module _ (lent : Lent) (ready : judgeLentOf lent ≡ Done) where
       where
         on : (d : Bool) (r : Ran)
             → went (record { answer = Done; sample = o ∷ []; state = withIntegrator s j })
-            (cond d (record { answer = r .answer; events = w .events + r .events; samples = w .outputs ++ r .samples; state = r .state }) (record { answer = w .answer; events = w .events; samples = w .outputs; state = resumed s w }))
-            ≡ cond d (record { answer = r .answer; events = suc (w .events) + r .events; samples = (o ∷ w .outputs) ++ r .samples; state = r .state }) (record { answer = w .answer; events = suc (w .events); samples = o ∷ w .outputs; state = resumed s w })
+            (cond d (record { answer = r .answer; events = w .events + r .events; samples = w .outputs ++ r .samples; state = r .state })
+            (record { answer = w .answer; events = w .events; samples = w .outputs; state = resumed s w }))
+            ≡ cond d (record { answer = r .answer; events = suc (w .events) + r .events; samples = (o ∷ w .outputs) ++ r .samples; state = r .state })
+            (record { answer = w .answer; events = suc (w .events); samples = o ∷ w .outputs; state = resumed s w })
         on true r = let k : suc (w .events + r .events) ≡ suc (w .events) + r .events = omega arith in rw k refl
         on false r = refl
 
@@ -193,7 +195,9 @@ module _ (lent : Lent) (ready : judgeLentOf lent ≡ Done) where
           let p = plain (Taken o j) h in
           let g : Good lent (withIntegrator s j) = subst (λ (x : Plain). Good lent (x .state)) p (good-step lent ready s (Sample sum energy) good) in
           taken-row s good sum energy es o j p (rowAt s j es) (moved s j es (on (withIntegrator s j) g))
-      go (Refused answer) h on = refused-row s good (Sample sum energy) es answer (off _ answer (sample-refuses (lent .bundle) (lent .curves) _ _ _ _ (s .integrator) sum energy) h) (ap (λ (x : Plain). x .answer) (plain (Refused answer) h))
+      go (Refused answer) h on =
+          refused-row s good (Sample sum energy) es answer (off _ answer (sample-refuses (lent .bundle) (lent .curves) _ _ _ _ (s .integrator) sum energy) h)
+          (ap (λ (x : Plain). x .answer) (plain (Refused answer) h))
 
 -- ---- samples that an event gives
 
@@ -246,7 +250,9 @@ played-few lent s (e ∷ es) = go (isDoneOf (plainStep lent s e .answer)) (playe
 -- ---- samples on the parts that they share
 
 row-same-samples : (lent : Lent) (t : MixingTopology) (c d : ControlCache) (mode : ℕ)
-    → ((j : IntegratorState) (sum energy : Float) → filterSampleOf (lent .bundle) (lent .curves) (summerSlotOf t) t c mode j sum energy ≡ filterSampleOf (lent .bundle) (lent .curves) (summerSlotOf t) t d mode j sum energy)
+    →
+    ((j : IntegratorState) (sum energy : Float) → filterSampleOf (lent .bundle) (lent .curves) (summerSlotOf t) t c mode j sum energy ≡ filterSampleOf (lent .bundle)
+    (lent .curves) (summerSlotOf t) t d mode j sum energy)
     → (i : IntegratorState) (es : List Event) → rowOf lent t c mode i es ≡ rowOf lent t d mode i es
 unfolding rowOf
 row-same-samples lent t c d mode same i [] = refl
@@ -254,7 +260,8 @@ row-same-samples lent t c d mode same i (e ∷ es) =
     let x = askedOf e .«input_sum» in
     let y = askedOf e .«source_energy» in
     ap (λ (z : Sampled). cond (askedOf e .sample) (rowOn (λ j. rowOf lent t c mode j es) i z) (noSamples Done i)) (same i x y)
-    ∙ ap (λ (z : Samples). cond (askedOf e .sample) z (noSamples Done i)) (on (filterSampleOf (lent .bundle) (lent .curves) (summerSlotOf t) t d mode i x y) (λ j. row-same-samples lent t c d mode same j es))
+    ∙ ap (λ (z : Samples). cond (askedOf e .sample) z (noSamples Done i))
+    (on (filterSampleOf (lent .bundle) (lent .curves) (summerSlotOf t) t d mode i x y) (λ j. row-same-samples lent t c d mode same j es))
   where
     on : (z : Sampled) → ((j : IntegratorState) → rowOf lent t c mode j es ≡ rowOf lent t d mode j es)
         → rowOn (λ j. rowOf lent t c mode j es) i z ≡ rowOn (λ j. rowOf lent t d mode j es) i z
@@ -265,11 +272,13 @@ small : (s : State) → validOf s ≡ true → s .registers .resonance < 256
 small s v = let r = valid-ranges s v .resonance in omega arith
 
 parts-sample : (lent : Lent) (s : State) → Good lent s → (j : IntegratorState) (sum energy : Float)
-    → filterSampleOf (lent .bundle) (lent .curves) (summerSlotOf (freshTopologyOf s)) (freshTopologyOf s) (cacheOfParts (partsOf (lent .bundle) s)) (s .registers .mode) j sum energy ≡ filterSampleOf (lent .bundle) (lent .curves) (summerSlotOf (freshTopologyOf s)) (freshTopologyOf s) (controlsOf (lent .bundle) s) (s .registers .mode) j sum energy
+    → filterSampleOf (lent .bundle) (lent .curves) (summerSlotOf (freshTopologyOf s)) (freshTopologyOf s) (cacheOfParts (partsOf (lent .bundle) s)) (s .registers .mode) j sum energy
+    ≡ filterSampleOf (lent .bundle) (lent .curves) (summerSlotOf (freshTopologyOf s)) (freshTopologyOf s) (controlsOf (lent .bundle) s) (s .registers .mode) j sum energy
 unfolding partsOf controlsOf refreshFilterControlsOf
 parts-sample lent s good j sum energy =
     sym (parts-are-sample (lent .bundle) (lent .curves) (summerSlotOf (freshTopologyOf s)) (freshTopologyOf s) (cacheOfParts (partsOf (lent .bundle) s)) (s .registers .mode) j sum energy)
-    ∙ rw (state-gain (lent .bundle) s (small s (good .valid)) (ap isDoneOf (good .judged))) (parts-are-sample (lent .bundle) (lent .curves) (summerSlotOf (freshTopologyOf s)) (freshTopologyOf s) (controlsOf (lent .bundle) s) (s .registers .mode) j sum energy)
+    ∙ rw (state-gain (lent .bundle) s (small s (good .valid)) (ap isDoneOf (good .judged)))
+    (parts-are-sample (lent .bundle) (lent .curves) (summerSlotOf (freshTopologyOf s)) (freshTopologyOf s) (controlsOf (lent .bundle) s) (s .registers .mode) j sum energy)
 
 -- ---- the loop
 
@@ -295,7 +304,8 @@ module _ (lent : Lent) (script : List ℕ) (count : ℕ) (s₀ : State) (out₀ 
   Finished answer i samples s out = (_≡_ {A = Played} (record { answer = answer; events = i; samples = samples; state = s }) (playEnd 0 0 whole)) × (out ≡ putAt out₀ 0 (sampleBytes (whole .samples)))
 
   -- a run that ends here
-  finishes : (answer : Answer) (i samples : ℕ) (s : State) (out : List ℕ) (r : Ran) → r ≡ stopped answer s → playEnd i samples r ≡ playEnd 0 0 whole → putAt out (16 * samples) (sampleBytes (r .samples)) ≡ putAt out₀ 0 (sampleBytes (whole .samples)) → Finished answer i samples s out
+  finishes : (answer : Answer) (i samples : ℕ) (s : State) (out : List ℕ) (r : Ran) → r ≡ stopped answer s → playEnd i samples r ≡ playEnd 0 0 whole
+      → putAt out (16 * samples) (sampleBytes (r .samples)) ≡ putAt out₀ 0 (sampleBytes (whole .samples)) → Finished answer i samples s out
   unfolding sampleBytes
   finishes answer i samples s out r h ends puts = (
     sym (ap (playEnd i samples) h ∙ rw (add-zero i, add-zero samples) refl) ∙ ends,
@@ -372,7 +382,8 @@ module _ (lent : Lent) (script : List ℕ) (count : ℕ) (s₀ : State) (out₀ 
           law .ends e (remaining (i + row .events + 1)) d
           (on .1 ∙ events-next script count (i + row .events) more e is)
 
-    pub row-stopped : isDoneOf (row .answer) ≡ false → Finished (row .answer) (i + row .events) (samples + length (row .outputs)) (withIntegrator s (row .integrator)) (putAt out (16 * samples) rowBytes)
+    pub row-stopped : isDoneOf (row .answer) ≡ false
+        → Finished (row .answer) (i + row .events) (samples + length (row .outputs)) (withIntegrator s (row .integrator)) (putAt out (16 * samples) rowBytes)
     row-stopped d =
         let is : playOf lent s (remaining i) ≡ record { answer = row .answer; events = row .events; samples = row .outputs; state = withIntegrator s (row .integrator) } = law .same ∙ rw d refl in
         (sym (ap (playEnd i samples) is) ∙ far .ends, sym (ap (λ (r : Ran). putAt out (16 * samples) (sampleBytes (r .samples))) is) ∙ far .puts)
@@ -437,7 +448,8 @@ module _ (lent : Lent) (script : List ℕ) (count : ℕ) (s₀ : State) (out₀ 
         (λ j sum energy. parts-sample lent s (far .good) j sum energy) (s .integrator) (remaining i)
 
     -- a row of samples
-    module _ {r : Row} (is-row : r ≡ rowEnd i samples shared) {after : List ℕ} (is-after : after ≡ putAt out (16 * samples) (sampleBytes (shared .outputs))) {d : Bool} (is-d : d ≡ isDoneOf (r .answer)) where
+    module _ {r : Row} (is-row : r ≡ rowEnd i samples shared) {after : List ℕ} (is-after : after ≡ putAt out (16 * samples) (sampleBytes (shared .outputs))) {d : Bool}
+        (is-d : d ≡ isDoneOf (r .answer)) where
       abbrev w : Samples
       w = row ready out s samples i far
 
@@ -481,7 +493,8 @@ module _ (lent : Lent) (script : List ℕ) (count : ℕ) (s₀ : State) (out₀ 
       pub moves-move : i < count → (e : Event) → eventAt script (8 + 12 * i) ≡ Readable e → {ask : Asked} → ask ≡ askedOf e → ask .sample ≡ false → d ≡ true → i < m .events
       moves-move more e at asks other h =
           let next = events-next script count i more e at in
-          let some = moves-some lent ready s e (remaining (i + 1)) (ap (λ (a : Asked). a .sample) (sym asks) ∙ other) (ap (λ (es : List Event). isDoneOf (movesOf (lent .bundle) s es .answer)) (sym next) ∙ m-is true h) in
+          let some = moves-some lent ready s e (remaining (i + 1)) (ap (λ (a : Asked). a .sample) (sym asks) ∙ other)
+          (ap (λ (es : List Event). isDoneOf (movesOf (lent .bundle) s es .answer)) (sym next) ∙ m-is true h) in
           let here = subst (λ (es : List Event). zero < movesOf (lent .bundle) s es .events) (sym next) some in
           rw is-m (omega arith)
 
@@ -490,7 +503,8 @@ module _ (lent : Lent) (script : List ℕ) (count : ℕ) (s₀ : State) (out₀ 
 
   -- ---- one turn: other events in a row, then samples in a row
 
-  module _ (ready : judgeLentOf lent ≡ Done) (out : List ℕ) (s : State) (samples i : ℕ) (far : Sofar out s samples i) {m : Moved} (is-m : m ≡ movesEnd (lent .bundle) i (movesOf (lent .bundle) s (remaining i))) where
+  module _ (ready : judgeLentOf lent ≡ Done) (out : List ℕ) (s : State) (samples i : ℕ) (far : Sofar out s samples i) {m : Moved}
+      (is-m : m ≡ movesEnd (lent .bundle) i (movesOf (lent .bundle) s (remaining i))) where
     -- where the first row is empty, a sample comes
     first-empty : (e : Event) → askedOf e .sample ≡ true → remaining i ≡ e ∷ remaining (i + 1) → m .events ≡ i
     unfolding movesOf
@@ -498,7 +512,8 @@ module _ (lent : Lent) (script : List ℕ) (count : ℕ) (s₀ : State) (out₀ 
 
     -- the two rows are not both empty
     pub turn-moves : i < count → {d : Bool} → d ≡ isDoneOf (m .answer) → d ≡ true → (then : Sofar out (m .state) samples (m .events))
-        → {r : Row} → r ≡ rowEnd (m .events) samples (samplesFrom lent (m .state) script count (m .events)) → {after : List ℕ} → after ≡ putAt out (16 * samples) (sampleBytes (samplesFrom lent (m .state) script count (m .events) .outputs))
+        → {r : Row} → r ≡ rowEnd (m .events) samples (samplesFrom lent (m .state) script count (m .events)) → {after : List ℕ}
+        → after ≡ putAt out (16 * samples) (sampleBytes (samplesFrom lent (m .state) script count (m .events) .outputs))
         → {f : Bool} → f ≡ isDoneOf (r .answer) → f ≡ true → i < r .events
     turn-moves more is-d d then {r} is-r is-after is-f f = go (eventAt script (8 + 12 * i)) refl
       where

@@ -152,8 +152,10 @@ module _ (lent : Lent) (ready : judgeLentOf lent ≡ Done) where
         where
           on : (d : Bool) (r : Ran)
               → went (record { answer = Done; sample = []; state = nextOf s e })
-              (cond d (record { answer = r .answer; events = m .events + r .events; samples = r .samples; state = r .state }) (record { answer = m .answer; events = m .events; samples = []; state = m .state }))
-              ≡ cond d (record { answer = r .answer; events = suc (m .events) + r .events; samples = r .samples; state = r .state }) (record { answer = m .answer; events = suc (m .events); samples = []; state = m .state })
+              (cond d (record { answer = r .answer; events = m .events + r .events; samples = r .samples; state = r .state })
+              (record { answer = m .answer; events = m .events; samples = []; state = m .state }))
+              ≡ cond d (record { answer = r .answer; events = suc (m .events) + r .events; samples = r .samples; state = r .state })
+              (record { answer = m .answer; events = suc (m .events); samples = []; state = m .state })
           on true r = let k : suc (m .events + r .events) ≡ suc (m .events) + r .events = omega arith in rw k refl
           on false r = refl
 
@@ -165,14 +167,16 @@ module _ (lent : Lent) (ready : judgeLentOf lent ≡ Done) where
       next-good : askedOf e .sample ≡ false → isDoneOf (judgeControlsOf (lent .bundle) (nextOf s e)) ≡ true → Good lent (nextOf s e)
       next-good a h = record { valid = next-valid s (good .valid) e; judged = done-is (judgeControlsOf (lent .bundle) (nextOf s e)) h }
 
-      go : (a : Bool) → askedOf e .sample ≡ a → (d : Bool) → isDoneOf (judgeControlsOf (lent .bundle) (nextOf s e)) ≡ d → (Good lent (nextOf s e) → MovesLaw (nextOf s e) es (movesOf (lent .bundle) (nextOf s e) es))
+      go : (a : Bool) → askedOf e .sample ≡ a → (d : Bool) → isDoneOf (judgeControlsOf (lent .bundle) (nextOf s e)) ≡ d
+          → (Good lent (nextOf s e) → MovesLaw (nextOf s e) es (movesOf (lent .bundle) (nextOf s e) es))
           → MovesLaw s (e ∷ es) (cond a (noMoves Done s) (cond d (oneMove (movesOf (lent .bundle) (nextOf s e) es)) (noMoves (judgeControlsOf (lent .bundle) (nextOf s e)) s)))
       go true a d h on = quiet s good (e ∷ es)
       go false a true h on = more s good e es a h (movesOf (lent .bundle) (nextOf s e) es) (on (next-good a h))
       go false a false h on = stop s good e es a h
 
   -- where it is not refused, an event that is no sample is gone
-  pub moves-some : (s : State) (e : Event) (es : List Event) → askedOf e .sample ≡ false → isDoneOf (movesOf (lent .bundle) s (e ∷ es) .answer) ≡ true → zero < movesOf (lent .bundle) s (e ∷ es) .events
+  pub moves-some : (s : State) (e : Event) (es : List Event) → askedOf e .sample ≡ false → isDoneOf (movesOf (lent .bundle) s (e ∷ es) .answer) ≡ true
+      → zero < movesOf (lent .bundle) s (e ∷ es) .events
   unfolding movesOf
   moves-some s e es other = rw other (go (isDoneOf (judgeControlsOf (lent .bundle) (nextOf s e))) refl)
     where

@@ -122,7 +122,8 @@ module _ (lent : Lent) where
   play-counts s [] h = (refl, refl)
   play-counts s (e ∷ es) h = let p = plainStep lent s e in go (isDoneOf (p .answer)) p (playOf lent (p .state) es) refl (step-counts s e) (play-counts (p .state) es) h
     where
-      go : (d : Bool) (p : Plain) (r : Ran) → isDoneOf (p .answer) ≡ d → (p .answer ≡ Done → length (p .sample) ≡ sampleCountOf e) → (r .answer ≡ Done → (r .events ≡ length es) × (length (r .samples) ≡ samplesOf es))
+      go : (d : Bool) (p : Plain) (r : Ran) → isDoneOf (p .answer) ≡ d → (p .answer ≡ Done → length (p .sample) ≡ sampleCountOf e)
+          → (r .answer ≡ Done → (r .events ≡ length es) × (length (r .samples) ≡ samplesOf es))
           → cond d (went p r) (stopped (p .answer) s) .answer ≡ Done
           → (cond d (went p r) (stopped (p .answer) s) .events ≡ suc (length es)) × (length (cond d (went p r) (stopped (p .answer) s) .samples) ≡ sampleCountOf e + samplesOf es)
       go true p r is one rest h = (ap suc (rest h .0), rw (length-append (p .sample) (r .samples), one (done-is (p .answer) is), rest h .1) refl)
@@ -133,7 +134,8 @@ module _ (lent : Lent) where
   play-first s [] = ((λ h. omega arith), (λ h. refl))
   play-first s (e ∷ es) = let p = plainStep lent s e in go (isDoneOf (p .answer)) p (playOf lent (p .state) es) refl
     where
-      go : (d : Bool) (p : Plain) (r : Ran) → isDoneOf (p .answer) ≡ d → Event0 (p .answer) (e ∷ es) (cond d (went p r) (stopped (p .answer) s) .answer) (cond d (went p r) (stopped (p .answer) s) .events)
+      go : (d : Bool) (p : Plain) (r : Ran) → isDoneOf (p .answer) ≡ d
+          → Event0 (p .answer) (e ∷ es) (cond d (went p r) (stopped (p .answer) s) .answer) (cond d (went p r) (stopped (p .answer) s) .events)
       go true p r h = ((λ a. omega arith), (λ z. absurd (omega (arith, z))))
       go false p r h = first-refused (p .answer) (e ∷ es) h
 

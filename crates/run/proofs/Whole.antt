@@ -23,7 +23,7 @@ use Rattle.controls.specs.Judging.{judgeControlsOf}
 use Rattle.script.specs.declared.Event.{Event}
 use Rattle.script.specs.declared.Checked.{Checked}
 use Rattle.script.specs.declared.Checked.the-variants.{WellFormed, Refused}
-use Rattle.script.specs.Script.{wellFormed, eventCountOf, slicesOf, allReadable, eventsIn, eventsOf, samplesOf, checkScriptOf}
+use Rattle.script.specs.Script.{wellFormed, eventCountOf, slicesOf, eventsOf, samplesOf, checkScriptOf}
 use Rattle.script.proofs.Laws.{slicesFrom, sample-le}
 use Rattle.script.proofs.Cut.{header, events-count}
 use Rattle.filter.specs.Lent.{Lent, judgeLentOf}
@@ -157,7 +157,8 @@ module _ (lent : Lent) (block script output : List ℕ) (judged : judgeRunOf len
   unfolding playedOf
   ran-few = go (isDoneOf (judgeControlsOf (lent .bundle) (fieldsOf block)))
     where
-      go : (d : Bool) → length (cond d (playOf lent (fieldsOf block) (eventsOf script)) (stopped (judgeControlsOf (lent .bundle) (fieldsOf block)) (fieldsOf block)) .samples) ≤ samplesOf (eventsOf script)
+      go : (d : Bool)
+          → length (cond d (playOf lent (fieldsOf block) (eventsOf script)) (stopped (judgeControlsOf (lent .bundle) (fieldsOf block)) (fieldsOf block)) .samples) ≤ samplesOf (eventsOf script)
       go true = played-few lent (fieldsOf block) (eventsOf script)
       go false = omega arith
 
@@ -245,8 +246,12 @@ unfolding runOf playedOf
 run-most lent block script output = go (isDoneOf (judgeRunOf lent block script (length output))) refl
   where
     go : (d : Bool) → isDoneOf (judgeRunOf lent block script (length output)) ≡ d
-        → (cond d (leftOf (playedOf lent (fieldsOf block) (eventsOf script)) output) (record { answer = judgeRunOf lent block script (length output); events = 0; samples = 0; state = block; output = output }) .events ≤ 65536)
-        × (cond d (leftOf (playedOf lent (fieldsOf block) (eventsOf script)) output) (record { answer = judgeRunOf lent block script (length output); events = 0; samples = 0; state = block; output = output }) .samples ≤ 65536)
+        →
+        (cond d (leftOf (playedOf lent (fieldsOf block) (eventsOf script)) output)
+        (record { answer = judgeRunOf lent block script (length output); events = 0; samples = 0; state = block; output = output }) .events ≤ 65536)
+        ×
+        (cond d (leftOf (playedOf lent (fieldsOf block) (eventsOf script)) output)
+        (record { answer = judgeRunOf lent block script (length output); events = 0; samples = 0; state = block; output = output }) .samples ≤ 65536)
     go true h =
         let judged = done-is (judgeRunOf lent block script (length output)) h in
         let f = formed script (length output) (parts lent block script (length output) judged .2) in

@@ -75,7 +75,12 @@ unfolding moves takes takenOf
 taken-takes c count mode NotFinite h = refl
 taken-takes c count mode (Settled a) h = go (finite (selectFilterOutputOf c count mode (a .outputs))) refl
   where
-    go : (t : Bool) → finite (selectFilterOutputOf c count mode (a .outputs)) ≡ t → takes (cond t (Taken (record { high = a .outputs .«high_pass»; band = a .outputs .«band_pass»; low = a .outputs .«low_pass»; selected = selectFilterOutputOf c count mode (a .outputs) }) (a .state)) (Refused Domain)) ≡ true
+    go : (t : Bool) → finite (selectFilterOutputOf c count mode (a .outputs)) ≡ t
+        → takes
+        (cond t
+        (Taken (record { high = a .outputs .«high_pass»; band = a .outputs .«band_pass»; low = a .outputs .«low_pass»; selected = selectFilterOutputOf c count mode (a .outputs) }) (a .state))
+        (Refused Domain))
+        ≡ true
     go true e = rw (h, e)
     go false e = refl
 

@@ -66,7 +66,8 @@ unfolding finiteAfter
 settled-or-not a true h = h refl
 settled-or-not a false h = refl
 
-settled-finite : (a : Advanced) → T (fits binary32 (a .state .«band_state»)) → T (fits binary32 (a .state .«low_state»)) → fits binary32 (a .state .«filter_source_energy») ≡ true → inDomain a ≡ true → finiteFloatsOf (a .state) ≡ true
+settled-finite : (a : Advanced) → T (fits binary32 (a .state .«band_state»)) → T (fits binary32 (a .state .«low_state»))
+    → fits binary32 (a .state .«filter_source_energy») ≡ true → inDomain a ≡ true → finiteFloatsOf (a .state) ≡ true
 unfolding inDomain finiteFloatsOf finiteF32Of
 settled-finite a p q r h =
     let s = a .state in

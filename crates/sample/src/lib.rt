@@ -353,7 +353,9 @@ pub fn sample_from_parts(
     input_sum: f32,
     source_energy: f32,
 ) -> Sampled
-    ensures { λ r. ⌜ r ≡ P.sampleFromPartsOf (now (curves .entry)) slot topology (P.cacheOf (now (gains .entry)) (now («input_drives» .entry)) (now («feedback_drives» .entry)) core «mode_output_gain») rest mode s «input_sum» «source_energy» ⌝ }
+    ensures { λ r. ⌜ r ≡ P.sampleFromPartsOf (now (curves .entry)) slot topology
+        (P.cacheOf (now (gains .entry)) (now («input_drives» .entry)) (now («feedback_drives» .entry)) core «mode_output_gain»)
+        rest mode s «input_sum» «source_energy» ⌝ }
 {
     let count = topology.filter_output_count;
     let fed = core_input(curves, slot, topology, rest, s, input_sum, source_energy);

@@ -198,5 +198,11 @@ one-piece s b h =
     let k = header s h in
     let l = k .long in
     let offset : bytesOf 4 8 ≡ take 4 (drop 4 s) = ap (bytesOf 4) (sym (k .offset)) ∙ bytesOf-numberAt 4 s 4 (omega arith) b in
-    rw (length-slices (eventCountOf s) (drop 8 s), joined-slices (eventCountOf s) (drop 8 s), take-all (12 * eventCountOf s) (drop 8 s) (omega (arith, length-drop 8 s)), bytesOf-numberAt 4 s 0 (omega arith) b, offset)
+    rw (
+      length-slices (eventCountOf s) (drop 8 s),
+      joined-slices (eventCountOf s) (drop 8 s),
+      take-all (12 * eventCountOf s) (drop 8 s) (omega (arith, length-drop 8 s)),
+      bytesOf-numberAt 4 s 0 (omega arith) b,
+      offset,
+    )
     (rw (← take-add 4 4 s) (take-append-drop 8 s))

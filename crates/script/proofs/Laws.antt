@@ -16,7 +16,8 @@ use Rattle.script.specs.declared.Event.the-variants.{CutoffLow, CutoffHi
 use Rattle.script.specs.declared.DecodedEvent.the-variants.{Readable, Unreadable}
 use Rattle.script.specs.declared.Checked.{Checked}
 use Rattle.script.specs.declared.Checked.the-variants.{WellFormed, Refused}
-use Rattle.script.specs.Script.{kindOf, decodeEventOf, eventAt, slicesIn, allReadable, eventsIn, sampleCountOf, samplesOf, headerOk, wellFormed, slicesOf, eventCountOf, eventsOf, tallyOf, checkScriptOf}
+use Rattle.script.specs.Script.{kindOf, decodeEventOf, eventAt, slicesIn, allReadable, eventsIn, sampleCountOf}
+use Rattle.script.specs.Script.{samplesOf, headerOk, wellFormed, slicesOf, eventCountOf, eventsOf, tallyOf, checkScriptOf}
 
 -- ---- an event
 
@@ -127,6 +128,8 @@ pub check-told : (s : List ℕ) (t : Bool) {c o : ℕ} → c ≡ eventCountOf s 
 unfolding checkScriptOf wellFormed headerOk tallyOf
 check-told s t pc po h = rw (← h, pc, po) (go (leb (eventCountOf s) 65536 && eqb (u32At s 4) 8 && eqb (length s) (8 + 12 * eventCountOf s)) (allReadable (slicesOf s)))
   where
-    go : (a b : Bool) → cond a (cond b (WellFormed (eventCountOf s) (samplesOf (eventsOf s))) (Refused Script)) (Refused Script) ≡ cond (a && b) (WellFormed (eventCountOf s) (samplesOf (eventsOf s))) (Refused Script)
+    go : (a b : Bool)
+        → cond a (cond b (WellFormed (eventCountOf s) (samplesOf (eventsOf s))) (Refused Script)) (Refused Script)
+        ≡ cond (a && b) (WellFormed (eventCountOf s) (samplesOf (eventsOf s))) (Refused Script)
     go true b = refl
     go false b = refl

@@ -31,7 +31,8 @@ returns c =
     let l = x .before in
     let z = l .before in
     toZ-ofZ w16 (d .result) (record { sfits = d .ok })
-    ∙ displacement-told (z .args .step) (l .of-i16 .ensures) (x .of-i32 .ensures ∙ ap (ofInt binary32) (toZ-ofZ w32 (z .args .step) (z .fits .step))) (r .round .ensures) (k .clamp .ensures) (d .ensures)
+    ∙ displacement-told (z .args .step) (l .of-i16 .ensures) (x .of-i32 .ensures ∙ ap (ofInt binary32) (toZ-ofZ w32 (z .args .step) (z .fits .step))) (r .round .ensures)
+    (k .clamp .ensures) (d .ensures)
 
 pub displacement-spec : {M : Type 1} → statement M
 displacement-spec =

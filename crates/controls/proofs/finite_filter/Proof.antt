@@ -29,7 +29,13 @@ all-finite-requires-4 c κs = search needs
 
 returns : tie.Need-returns
 unfolding finiteFilterOf
-returns c = simp (c .all-finite4 .ensures, c .before .before .all-finite3 .ensures, c .before .before .before .before .all-finite2 .ensures, c .before .before .before .before .before .before .all-finite .ensures)
+returns c =
+    simp (
+      c .all-finite4 .ensures,
+      c .before .before .all-finite3 .ensures,
+      c .before .before .before .before .all-finite2 .ensures,
+      c .before .before .before .before .before .before .all-finite .ensures,
+    )
 
 pub finite-filter-spec : {M : Type 1} → statement M
 finite-filter-spec =

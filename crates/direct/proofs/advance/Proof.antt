@@ -30,15 +30,26 @@ unless-requires-2 c κs = search needs
 first-requires : tie.Need-first-requires
 first-requires c κs = search needs
 
-advanced-of-requires : tie.Need-advanced-of-requires
-advanced-of-requires c κs = search needs
+advanced-or-requires : tie.Need-advanced-or-requires
+advanced-or-requires c κs = search needs
 
 returns : tie.Need-returns
 unfolding advanceCallOf advanceAnswerOf
 returns c =
     let y = c .before .before .before .before in
     let z = y .before .before .before .before in
-    simp (c .advanced-of .ensures, c .before .first .ensures, c .before .before .unless2 .ensures, c .before .before .before .unless .ensures, y .finite-outputs .ensures, y .before .finite-state2 .ensures, y .before .before .finite-coefficients .ensures, y .before .before .before .is-finite .ensures, z .finite-state .ensures, z .before .before .before .advance .ensures)
+    simp (
+      c .advanced-or .ensures,
+      c .before .first .ensures,
+      c .before .before .unless2 .ensures,
+      c .before .before .before .unless .ensures,
+      y .finite-outputs .ensures,
+      y .before .finite-state2 .ensures,
+      y .before .before .finite-coefficients .ensures,
+      y .before .before .before .is-finite .ensures,
+      z .finite-state .ensures,
+      z .before .before .before .advance .ensures,
+    )
 
 pub advance-spec : {M : Type 1} → statement M
 advance-spec =
@@ -53,5 +64,5 @@ advance-spec =
     unless-requires
     unless-requires-2
     first-requires
-    advanced-of-requires
+    advanced-or-requires
     returns)

@@ -27,15 +27,25 @@ check-requires c κs = search needs
 first-requires-2 : tie.Need-first-requires-2
 first-requires-2 c κs = search needs
 
-finished-requires : tie.Need-finished-requires
-finished-requires c κs = search needs
+judged-value-requires : tie.Need-judged-value-requires
+judged-value-requires c κs = search needs
 
 returns : tie.Need-returns
 unfolding filterModeOutputGainCallOf filterModeOutputGainAnswerOf
 returns c =
     let y = c .before .before .before .before in
     let z = y .before .before .before .before in
-    simp (c .finished .ensures, c .before .first2 .ensures, c .before .before .check .ensures, c .before .before .before .first .ensures, y .judge-loading .ensures, y .before .unless .ensures, y .before .before .filter-mode-output-gain .ensures, y .before .before .before .entry-at .ensures, z .highpass-loading-place .ensures)
+    simp (
+      c .judged-value .ensures,
+      c .before .first2 .ensures,
+      c .before .before .check .ensures,
+      c .before .before .before .first .ensures,
+      y .judge-loading .ensures,
+      y .before .unless .ensures,
+      y .before .before .filter-mode-output-gain .ensures,
+      y .before .before .before .entry-at .ensures,
+      z .highpass-loading-place .ensures,
+    )
 
 pub filter-mode-output-gain-spec : {M : Type 1} → statement M
 filter-mode-output-gain-spec =
@@ -49,5 +59,5 @@ filter-mode-output-gain-spec =
     first-requires
     check-requires
     first-requires-2
-    finished-requires
+    judged-value-requires
     returns)

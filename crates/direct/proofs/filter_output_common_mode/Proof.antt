@@ -9,12 +9,12 @@ unless-requires c κs = search needs
 filter-output-common-mode-requires : tie.Need-filter-output-common-mode-requires
 filter-output-common-mode-requires c κs = search needs
 
-finished-requires : tie.Need-finished-requires
-finished-requires c κs = search needs
+judged-value-requires : tie.Need-judged-value-requires
+judged-value-requires c κs = search needs
 
 returns : tie.Need-returns
 unfolding filterOutputCommonModeCallOf
-returns c = simp (c .finished .ensures, c .before .filter-output-common-mode .ensures, c .before .before .unless .ensures)
+returns c = simp (c .judged-value .ensures, c .before .filter-output-common-mode .ensures, c .before .before .unless .ensures)
 
 pub filter-output-common-mode-spec : {M : Type 1} → statement M
 filter-output-common-mode-spec =
@@ -22,5 +22,5 @@ filter-output-common-mode-spec =
     (tie.spec
     unless-requires
     filter-output-common-mode-requires
-    finished-requires
+    judged-value-requires
     returns)

@@ -30,21 +30,34 @@ first-requires c κs = search needs
 first-requires-2 : tie.Need-first-requires-2
 first-requires-2 c κs = search needs
 
-curves-length-requires : tie.Need-curves-length-requires
-curves-length-requires c κs = search needs
+judge-length-requires : tie.Need-judge-length-requires
+judge-length-requires c κs = search needs
 
 first-requires-3 : tie.Need-first-requires-3
 first-requires-3 c κs = search needs
 
-finished-requires : tie.Need-finished-requires
-finished-requires c κs = search needs
+judged-value-requires : tie.Need-judged-value-requires
+judged-value-requires c κs = search needs
 
 returns : tie.Need-returns
 unfolding mixerTransferCallOf mixerAnswerOf
 returns c =
     let y = c .before .before .before .before in
     let z = y .before .before .before .before in
-    simp (c .finished .ensures, c .before .first3 .ensures, c .before .before .curves-length .ensures, c .before .before .before .first2 .ensures, y .first .ensures, y .before .judge-mixer .ensures, y .before .before .unless2 .ensures, z .unless .ensures, z .before .is-finite2 .ensures, z .before .before .is-finite .ensures, z .before .before .before .mixer-transfer .ensures, z .before .before .before .before .mixer-slot .ensures)
+    simp (
+      c .judged-value .ensures,
+      c .before .first3 .ensures,
+      c .before .before .judge-length .ensures,
+      c .before .before .before .first2 .ensures,
+      y .first .ensures,
+      y .before .judge-mixer .ensures,
+      y .before .before .unless2 .ensures,
+      z .unless .ensures,
+      z .before .is-finite2 .ensures,
+      z .before .before .is-finite .ensures,
+      z .before .before .before .mixer-transfer .ensures,
+      z .before .before .before .before .mixer-slot .ensures,
+    )
 
 pub mixer-transfer-spec : {M : Type 1} → statement M
 mixer-transfer-spec =
@@ -59,7 +72,7 @@ mixer-transfer-spec =
     judge-mixer-requires
     first-requires
     first-requires-2
-    curves-length-requires
+    judge-length-requires
     first-requires-3
-    finished-requires
+    judged-value-requires
     returns)

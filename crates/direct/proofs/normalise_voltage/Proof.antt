@@ -12,12 +12,12 @@ unless-requires c κs = search needs
 normalise-voltage-requires : tie.Need-normalise-voltage-requires
 normalise-voltage-requires c κs = search needs
 
-finished-requires : tie.Need-finished-requires
-finished-requires c κs = search needs
+judged-value-requires : tie.Need-judged-value-requires
+judged-value-requires c κs = search needs
 
 returns : tie.Need-returns
 unfolding normaliseVoltageCallOf
-returns c = simp (c .finished .ensures, c .before .normalise-voltage .ensures, c .before .before .unless .ensures, c .before .before .before .is-finite .ensures)
+returns c = simp (c .judged-value .ensures, c .before .normalise-voltage .ensures, c .before .before .unless .ensures, c .before .before .before .is-finite .ensures)
 
 pub normalise-voltage-spec : {M : Type 1} → statement M
 normalise-voltage-spec =
@@ -26,5 +26,5 @@ normalise-voltage-spec =
     is-finite-requires
     unless-requires
     normalise-voltage-requires
-    finished-requires
+    judged-value-requires
     returns)

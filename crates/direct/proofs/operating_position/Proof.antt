@@ -18,14 +18,21 @@ unless-requires c κs = search needs
 operating-position-requires : tie.Need-operating-position-requires
 operating-position-requires c κs = search needs
 
-position-of-requires : tie.Need-position-of-requires
-position-of-requires c κs = search needs
+bins-or-requires : tie.Need-bins-or-requires
+bins-or-requires c κs = search needs
 
 returns : tie.Need-returns
 unfolding operatingPositionCallOf
 returns c =
     let y = c .before .before .before .before in
-    simp (c .position-of .ensures, c .before .operating-position .ensures, c .before .before .unless .ensures, c .before .before .before .is-finite3 .ensures, y .is-finite2 .ensures, y .before .is-finite .ensures)
+    simp (
+      c .bins-or .ensures,
+      c .before .operating-position .ensures,
+      c .before .before .unless .ensures,
+      c .before .before .before .is-finite3 .ensures,
+      y .is-finite2 .ensures,
+      y .before .is-finite .ensures,
+    )
 
 pub operating-position-spec : {M : Type 1} → statement M
 operating-position-spec =
@@ -36,5 +43,5 @@ operating-position-spec =
     is-finite-requires-3
     unless-requires
     operating-position-requires
-    position-of-requires
+    bins-or-requires
     returns)

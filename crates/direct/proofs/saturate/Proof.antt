@@ -15,14 +15,14 @@ unless-requires c κs = search needs
 saturate-requires : tie.Need-saturate-requires
 saturate-requires c κs = search needs
 
-finished-requires : tie.Need-finished-requires
-finished-requires c κs = search needs
+judged-value-requires : tie.Need-judged-value-requires
+judged-value-requires c κs = search needs
 
 returns : tie.Need-returns
 unfolding saturateCallOf
 returns c =
     let y = c .before .before .before .before in
-    simp (c .finished .ensures, c .before .saturate .ensures, c .before .before .unless .ensures, c .before .before .before .is-finite2 .ensures, y .is-finite .ensures)
+    simp (c .judged-value .ensures, c .before .saturate .ensures, c .before .before .unless .ensures, c .before .before .before .is-finite2 .ensures, y .is-finite .ensures)
 
 pub saturate-spec : {M : Type 1} → statement M
 saturate-spec =
@@ -32,5 +32,5 @@ saturate-spec =
     is-finite-requires-2
     unless-requires
     saturate-requires
-    finished-requires
+    judged-value-requires
     returns)

@@ -30,8 +30,8 @@ first-requires c κs = search needs
 first-requires-2 : tie.Need-first-requires-2
 first-requires-2 c κs = search needs
 
-curves-length-requires : tie.Need-curves-length-requires
-curves-length-requires c κs = search needs
+judge-length-requires : tie.Need-judge-length-requires
+judge-length-requires c κs = search needs
 
 first-requires-3 : tie.Need-first-requires-3
 first-requires-3 c κs = search needs
@@ -42,8 +42,8 @@ check-requires c κs = search needs
 first-requires-4 : tie.Need-first-requires-4
 first-requires-4 c κs = search needs
 
-finished-requires : tie.Need-finished-requires
-finished-requires c κs = search needs
+judged-value-requires : tie.Need-judged-value-requires
+judged-value-requires c κs = search needs
 
 returns : tie.Need-returns
 unfolding summerTransferCallOf summerAnswerOf
@@ -51,7 +51,22 @@ returns c =
     let y = c .before .before .before .before in
     let z = y .before .before .before .before in
     let w = z .before .before .before .before in
-    simp (c .finished .ensures, c .before .first4 .ensures, c .before .before .check .ensures, c .before .before .before .first3 .ensures, y .curves-length .ensures, y .before .first2 .ensures, y .before .before .first .ensures, y .before .before .before .judge-summer .ensures, z .unless2 .ensures, z .before .is-finite2 .ensures, z .before .before .unless .ensures, z .before .before .before .is-finite .ensures, w .before .summer-transfer .ensures, w .before .before .summer-slot .ensures)
+    simp (
+      c .judged-value .ensures,
+      c .before .first4 .ensures,
+      c .before .before .check .ensures,
+      c .before .before .before .first3 .ensures,
+      y .judge-length .ensures,
+      y .before .first2 .ensures,
+      y .before .before .first .ensures,
+      y .before .before .before .judge-summer .ensures,
+      z .unless2 .ensures,
+      z .before .is-finite2 .ensures,
+      z .before .before .unless .ensures,
+      z .before .before .before .is-finite .ensures,
+      w .before .summer-transfer .ensures,
+      w .before .before .summer-slot .ensures,
+    )
 
 pub summer-transfer-spec : {M : Type 1} → statement M
 summer-transfer-spec =
@@ -66,9 +81,9 @@ summer-transfer-spec =
     judge-summer-requires
     first-requires
     first-requires-2
-    curves-length-requires
+    judge-length-requires
     first-requires-3
     check-requires
     first-requires-4
-    finished-requires
+    judged-value-requires
     returns)

@@ -9,12 +9,12 @@ unless-requires c κs = search needs
 volume-dac-conductance-code-requires : tie.Need-volume-dac-conductance-code-requires
 volume-dac-conductance-code-requires c κs = search needs
 
-finished-requires : tie.Need-finished-requires
-finished-requires c κs = search needs
+judged-value-requires : tie.Need-judged-value-requires
+judged-value-requires c κs = search needs
 
 returns : tie.Need-returns
 unfolding volumeDacConductanceCodeCallOf
-returns c = simp (c .finished .ensures, c .before .volume-dac-conductance-code .ensures, c .before .before .unless .ensures)
+returns c = simp (c .judged-value .ensures, c .before .volume-dac-conductance-code .ensures, c .before .before .unless .ensures)
 
 pub volume-dac-conductance-code-spec : {M : Type 1} → statement M
 volume-dac-conductance-code-spec =
@@ -22,5 +22,5 @@ volume-dac-conductance-code-spec =
     (tie.spec
     unless-requires
     volume-dac-conductance-code-requires
-    finished-requires
+    judged-value-requires
     returns)

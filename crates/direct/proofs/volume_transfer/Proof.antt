@@ -21,20 +21,30 @@ judge-volume-requires c κs = search needs
 first-requires : tie.Need-first-requires
 first-requires c κs = search needs
 
-curves-length-requires : tie.Need-curves-length-requires
-curves-length-requires c κs = search needs
+judge-length-requires : tie.Need-judge-length-requires
+judge-length-requires c κs = search needs
 
 first-requires-2 : tie.Need-first-requires-2
 first-requires-2 c κs = search needs
 
-finished-requires : tie.Need-finished-requires
-finished-requires c κs = search needs
+judged-value-requires : tie.Need-judged-value-requires
+judged-value-requires c κs = search needs
 
 returns : tie.Need-returns
 unfolding volumeTransferCallOf volumeAnswerOf
 returns c =
     let y = c .before .before .before .before in
-    simp (c .finished .ensures, c .before .first2 .ensures, c .before .before .curves-length .ensures, c .before .before .before .first .ensures, y .judge-volume .ensures, y .before .unless .ensures, y .before .before .is-finite .ensures, y .before .before .before .volume-transfer .ensures, y .before .before .before .before .volume-slot .ensures)
+    simp (
+      c .judged-value .ensures,
+      c .before .first2 .ensures,
+      c .before .before .judge-length .ensures,
+      c .before .before .before .first .ensures,
+      y .judge-volume .ensures,
+      y .before .unless .ensures,
+      y .before .before .is-finite .ensures,
+      y .before .before .before .volume-transfer .ensures,
+      y .before .before .before .before .volume-slot .ensures,
+    )
 
 pub volume-transfer-spec : {M : Type 1} → statement M
 volume-transfer-spec =
@@ -46,7 +56,7 @@ volume-transfer-spec =
     unless-requires
     judge-volume-requires
     first-requires
-    curves-length-requires
+    judge-length-requires
     first-requires-2
-    finished-requires
+    judged-value-requires
     returns)

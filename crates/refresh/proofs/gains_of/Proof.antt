@@ -99,7 +99,25 @@ f32-of-requires-16 : tie.Need-f32-of-requires-16
 f32-of-requires-16 c κs = search needs
 
 returns : tie.Need-returns
-returns c = simp (c .f32-of16 .ensures, c .before .f32-of15 .ensures, c .before .before .f32-of14 .ensures, c .before .before .before .f32-of13 .ensures, c .before .before .before .before .f32-of12 .ensures, c .before .before .before .before .before .f32-of11 .ensures, c .before .before .before .before .before .before .f32-of10 .ensures, c .before .before .before .before .before .before .before .f32-of9 .ensures, c .before .before .before .before .before .before .before .before .f32-of8 .ensures, c .before .before .before .before .before .before .before .before .before .f32-of7 .ensures, c .before .before .before .before .before .before .before .before .before .before .f32-of6 .ensures, c .before .before .before .before .before .before .before .before .before .before .before .f32-of5 .ensures, c .before .before .before .before .before .before .before .before .before .before .before .before .f32-of4 .ensures, c .before .before .before .before .before .before .before .before .before .before .before .before .before .f32-of3 .ensures, c .before .before .before .before .before .before .before .before .before .before .before .before .before .before .f32-of2 .ensures, c .before .before .before .before .before .before .before .before .before .before .before .before .before .before .before .f32-of .ensures)
+returns c =
+    simp (
+      c .f32-of16 .ensures,
+      c .before .f32-of15 .ensures,
+      c .before .before .f32-of14 .ensures,
+      c .before .before .before .f32-of13 .ensures,
+      c .before .before .before .before .f32-of12 .ensures,
+      c .before .before .before .before .before .f32-of11 .ensures,
+      c .before .before .before .before .before .before .f32-of10 .ensures,
+      c .before .before .before .before .before .before .before .f32-of9 .ensures,
+      c .before .before .before .before .before .before .before .before .f32-of8 .ensures,
+      c .before .before .before .before .before .before .before .before .before .f32-of7 .ensures,
+      c .before .before .before .before .before .before .before .before .before .before .f32-of6 .ensures,
+      c .before .before .before .before .before .before .before .before .before .before .before .f32-of5 .ensures,
+      c .before .before .before .before .before .before .before .before .before .before .before .before .f32-of4 .ensures,
+      c .before .before .before .before .before .before .before .before .before .before .before .before .before .f32-of3 .ensures,
+      c .before .before .before .before .before .before .before .before .before .before .before .before .before .before .f32-of2 .ensures,
+      c .before .before .before .before .before .before .before .before .before .before .before .before .before .before .before .f32-of .ensures,
+    )
 
 pub gains-of-spec : {M : Type 1} → statement M
 gains-of-spec =

@@ -65,7 +65,28 @@ judge-places-requires c κs = search needs
 
 returns : tie.Need-returns
 unfolding judgeFilterOf
-returns c = simp (c .judge-places .ensures, c .before .before .source-gain-modulation-place .ensures, c .before .before .before .damping-place .ensures, c .before .before .before .before .integrator-gain-place16 .ensures, c .before .before .before .before .before .integrator-gain-place15 .ensures, c .before .before .before .before .before .before .integrator-gain-place14 .ensures, c .before .before .before .before .before .before .before .integrator-gain-place13 .ensures, c .before .before .before .before .before .before .before .before .integrator-gain-place12 .ensures, c .before .before .before .before .before .before .before .before .before .integrator-gain-place11 .ensures, c .before .before .before .before .before .before .before .before .before .before .integrator-gain-place10 .ensures, c .before .before .before .before .before .before .before .before .before .before .before .integrator-gain-place9 .ensures, c .before .before .before .before .before .before .before .before .before .before .before .before .integrator-gain-place8 .ensures, c .before .before .before .before .before .before .before .before .before .before .before .before .before .integrator-gain-place7 .ensures, c .before .before .before .before .before .before .before .before .before .before .before .before .before .before .integrator-gain-place6 .ensures, c .before .before .before .before .before .before .before .before .before .before .before .before .before .before .before .integrator-gain-place5 .ensures, c .before .before .before .before .before .before .before .before .before .before .before .before .before .before .before .before .integrator-gain-place4 .ensures, c .before .before .before .before .before .before .before .before .before .before .before .before .before .before .before .before .before .integrator-gain-place3 .ensures, c .before .before .before .before .before .before .before .before .before .before .before .before .before .before .before .before .before .before .integrator-gain-place2 .ensures, c .before .before .before .before .before .before .before .before .before .before .before .before .before .before .before .before .before .before .before .integrator-gain-place .ensures)
+returns c =
+    simp (
+      c .judge-places .ensures,
+      c .before .before .source-gain-modulation-place .ensures,
+      c .before .before .before .damping-place .ensures,
+      c .before .before .before .before .integrator-gain-place16 .ensures,
+      c .before .before .before .before .before .integrator-gain-place15 .ensures,
+      c .before .before .before .before .before .before .integrator-gain-place14 .ensures,
+      c .before .before .before .before .before .before .before .integrator-gain-place13 .ensures,
+      c .before .before .before .before .before .before .before .before .integrator-gain-place12 .ensures,
+      c .before .before .before .before .before .before .before .before .before .integrator-gain-place11 .ensures,
+      c .before .before .before .before .before .before .before .before .before .before .integrator-gain-place10 .ensures,
+      c .before .before .before .before .before .before .before .before .before .before .before .integrator-gain-place9 .ensures,
+      c .before .before .before .before .before .before .before .before .before .before .before .before .integrator-gain-place8 .ensures,
+      c .before .before .before .before .before .before .before .before .before .before .before .before .before .integrator-gain-place7 .ensures,
+      c .before .before .before .before .before .before .before .before .before .before .before .before .before .before .integrator-gain-place6 .ensures,
+      c .before .before .before .before .before .before .before .before .before .before .before .before .before .before .before .integrator-gain-place5 .ensures,
+      c .before .before .before .before .before .before .before .before .before .before .before .before .before .before .before .before .integrator-gain-place4 .ensures,
+      c .before .before .before .before .before .before .before .before .before .before .before .before .before .before .before .before .before .integrator-gain-place3 .ensures,
+      c .before .before .before .before .before .before .before .before .before .before .before .before .before .before .before .before .before .before .integrator-gain-place2 .ensures,
+      c .before .before .before .before .before .before .before .before .before .before .before .before .before .before .before .before .before .before .before .integrator-gain-place .ensures,
+    )
 
 pub judge-filter-places-spec : {M : Type 1} → statement M
 judge-filter-places-spec =

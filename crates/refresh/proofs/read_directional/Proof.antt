@@ -38,14 +38,18 @@ returns : tie.Need-returns
 returns c =
     let m = c .before .before .before .before .before in
     let z = m .before .before .before .before in
-    let e = simp (c .before .before .before .before .directional-power-place .ensures, m .mode-index .ensures, toZ-ofZ w16 (z .args .displacement) (z .fits .displacement)) at (c .before .before .before .read-entry .ensures) in
+    let e = simp
+    (c .before .before .before .before .directional-power-place .ensures, m .mode-index .ensures, toZ-ofZ w16 (z .args .displacement) (z .fits .displacement)) at
+    (c .before .before .before .read-entry .ensures) in
     simp (← m .before .before .is-single-mode .ensures, m .before .if1 .taken) (still-refused _ _ _ (sym (c .before .power .given .1) ∙ e))
 
 returns-2 : tie.Need-returns-2
 returns-2 c =
     let m = c .before .before .before .before .before .before in
     let z = m .before .before .before .before in
-    let e = simp (c .before .before .before .before .before .directional-power-place .ensures, m .mode-index .ensures, toZ-ofZ w16 (z .args .displacement) (z .fits .displacement)) at (c .before .before .before .before .read-entry .ensures) in
+    let e = simp
+    (c .before .before .before .before .before .directional-power-place .ensures, m .mode-index .ensures, toZ-ofZ w16 (z .args .displacement) (z .fits .displacement)) at
+    (c .before .before .before .before .read-entry .ensures) in
     simp (← m .before .before .is-single-mode .ensures, m .before .if1 .taken, c .symmetric-gain .ensures, m .mode-index .ensures)
     (read-through _ _ (λ x. symmetricGainOf (modeIndexOf (z .args .m)) (z .args .cutoff) ⊗ x) (sym (c .before .before .power2 .given .1) ∙ e))
 

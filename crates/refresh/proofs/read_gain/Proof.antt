@@ -44,7 +44,9 @@ unfolding judgeModeOf
 returns-2 c =
     let d = c .before .before .before in
     let l = d .before .before .before in
-    let e = simp (toZ-ofZ w16 (l .before .before .before .before .before .args .r .«cutoff_dac_displacement_codes») (record { sfits = d .before .struct-told .given .1 .0 .1 })) at (d .read-directional .ensures) in
+    let e = simp
+    (toZ-ofZ w16 (l .before .before .before .before .before .args .r .«cutoff_dac_displacement_codes») (record { sfits = d .before .struct-told .given .1 .0 .1 })) at
+    (d .read-directional .ensures) in
     second-refused _ _ _ _ _ (sym (l .loading2 .given .1) ∙ l .before .before .read-loading .ensures) (sym (c .before .directional .given .1) ∙ e)
 
 returns-3 : tie.Need-returns-3

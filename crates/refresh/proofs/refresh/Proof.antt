@@ -23,7 +23,8 @@ returns : tie.Need-returns
 returns c =
     let j = c .before .before .before .before .before .before in
     let e = c .before .before .effective-cutoff .ensures in
-    refreshed _ _ (omega (arith, c .before .before .before .before .before .before .before .before .good .1 .0)) (j .judge-controls .ensures) (c .before .before .before .before .before .is-done .ensures) (c .before .before .before .before .if1 .taken)
+    refreshed _ _ (omega (arith, c .before .before .before .before .before .before .before .before .good .1 .0)) (j .judge-controls .ensures)
+    (c .before .before .before .before .before .is-done .ensures) (c .before .before .before .before .if1 .taken)
     (simp e at (c .before .refresh-filter-controls .ensures)) (c .refresh-register-output-state .ensures)
 
 no-controls-requires : tie.Need-no-controls-requires

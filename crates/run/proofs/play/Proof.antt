@@ -51,7 +51,8 @@ returns c =
     let d = c .before in
     let p = d .before .before in
     let l = p .before .before in
-    moves-stop _ _ _ _ _ (l .before .before .before .before .before .before .before .pre .1 .1 .0 .ready) _ _ _ _ (l .loop .inv .far) (p .play-changes .ensures) (d .is-done .ensures) (not-true (d .is-done .result) (c .if1 .taken))
+    moves-stop _ _ _ _ _ (l .before .before .before .before .before .before .before .pre .1 .1 .0 .ready) _ _ _ _ (l .loop .inv .far) (p .play-changes .ensures)
+    (d .is-done .ensures) (not-true (d .is-done .result) (c .if1 .taken))
 
 fresh-topology-requires-2 : tie.Need-fresh-topology-requires-2 Inv-loop μ-loop
 fresh-topology-requires-2 c κs = search needs
@@ -110,7 +111,8 @@ loop-less c =
     let done = not-false (d .is-done .result) (e .if1 .left) in
     let then = moves-go _ _ _ _ _ ready _ _ _ _ far (m .play-changes .ensures) (d .is-done .ensures) done in
     let last = not-false (c .before .is-done2 .result) (c .if2 .left) in
-    let moves = turn-moves _ _ _ _ _ ready _ _ _ _ far (m .play-changes .ensures) (m .before .loop-test .taken) (d .is-done .ensures) done then (p .play-samples .ensures .0) (p .play-samples .ensures .1) (c .before .is-done2 .ensures) last in
+    let moves = turn-moves _ _ _ _ _ ready _ _ _ _ far (m .play-changes .ensures) (m .before .loop-test .taken) (d .is-done .ensures) done then
+    (p .play-samples .ensures .0) (p .play-samples .ensures .1) (c .before .is-done2 .ensures) last in
     let within = row-goes _ _ _ _ _ ready _ _ _ _ then (p .play-samples .ensures .0) (p .play-samples .ensures .1) (c .before .is-done2 .ensures) last .within in
     omega arith
 

@@ -74,7 +74,9 @@ loop-again c =
     let v = a .before .before in
     let e = v .before .before in
     let l = e .before .before in
-    moved _ _ _ _ _ _ _ _ (l .loop .inv) (e .before .loop-test .taken) (v .event .given .0 .0) (sym (e .event-at .ensures) ∙ v .event .given .1) (a .asks .ensures) (c .before .before .before .before .if1 .left) (c .before .before .before .next-state .ensures) (c .before .before .judge-controls .ensures) (c .before .is-done .ensures) (c .if2 .taken)
+    moved _ _ _ _ _ _ _ _ (l .loop .inv) (e .before .loop-test .taken) (v .event .given .0 .0) (sym (e .event-at .ensures) ∙ v .event .given .1) (a .asks .ensures)
+    (c .before .before .before .before .if1 .left) (c .before .before .before .next-state .ensures) (c .before .before .judge-controls .ensures)
+    (c .before .is-done .ensures) (c .if2 .taken)
 
 returns-3 : tie.Need-returns-3 Inv-loop μ-loop
 returns-3 c =
@@ -82,7 +84,9 @@ returns-3 c =
     let v = a .before .before in
     let e = v .before .before in
     let l = e .before .before in
-    refused _ _ _ _ _ _ _ _ (l .loop .inv) (e .before .loop-test .taken) (v .event .given .0 .0) (sym (e .event-at .ensures) ∙ v .event .given .1) (a .asks .ensures) (c .before .before .before .before .if1 .left) (c .before .before .before .next-state .ensures) (c .before .before .judge-controls .ensures) (c .before .is-done .ensures) (c .if2 .left)
+    refused _ _ _ _ _ _ _ _ (l .loop .inv) (e .before .loop-test .taken) (v .event .given .0 .0) (sym (e .event-at .ensures) ∙ v .event .given .1) (a .asks .ensures)
+    (c .before .before .before .before .if1 .left) (c .before .before .before .next-state .ensures) (c .before .before .judge-controls .ensures)
+    (c .before .is-done .ensures) (c .if2 .left)
 
 returns-4 : tie.Need-returns-4 Inv-loop μ-loop
 returns-4 c = at-end _ _ _ _ _ _ _ _ (c .before .loop .inv) (c .loop-test .left)

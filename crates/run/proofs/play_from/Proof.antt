@@ -49,7 +49,8 @@ returns c =
     let t = c .before .before .before .before .before in
     let z = t .before .before .before .before .before .before .before in
     let p = c .before .before .play .ensures in
-    let plays = start-plays _ _ _ (z .pre .1) (ap (λ (j : Judged). j .answer) (t .before .before .judge-controls .ensures)) (t .before .is-done .ensures) (t .if1 .taken) (c .before .before .before .before .u32-at .ensures) in
+    let plays = start-plays _ _ _ (z .pre .1) (ap (λ (j : Judged). j .answer) (t .before .before .judge-controls .ensures)) (t .before .is-done .ensures) (t .if1 .taken)
+    (c .before .before .before .before .u32-at .ensures) in
     (p .0 ∙ ap (playEnd 0 0) plays, p .1 ∙ ap (playPut (now (z .args .output))) plays)
 
 returns-2 : tie.Need-returns-2

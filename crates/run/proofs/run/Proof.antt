@@ -32,7 +32,8 @@ same-length c = search needs
 returns : tie.Need-returns
 returns c =
     let lent = c .before .before .before .before .before .before .judge-lent .ensures in
-    rw (c .turned-back .ensures) (invalid-refused _ _ _ _ (c .before .before .before .before .decode .ensures) (c .before .before .enum-told .given .1) (c .before .first .ensures ∙ ap (λ (l : Answer). firstOf l Argument) lent))
+    rw (c .turned-back .ensures)
+    (invalid-refused _ _ _ _ (c .before .before .before .before .decode .ensures) (c .before .before .enum-told .given .1) (c .before .first .ensures ∙ ap (λ (l : Answer). firstOf l Argument) lent))
 
 judge-script-requires : tie.Need-judge-script-requires
 judge-script-requires c κs = search needs

@@ -26,7 +26,14 @@ returns-2 : tie.Need-returns-2
 unfolding coreInputOf
 returns-2 c =
     let z = c .before .before .before .before .before in
-    simp (← z .before .before .is-finite .ensures, ← z .before .is-finite2 .ensures, z .if1 .taken, le-leb _ _ (c .before .before .before .if2 .taken), ← c .before .before .is-idle .ensures, c .before .if3 .left) (c .summed .ensures)
+    simp (
+      ← z .before .before .is-finite .ensures,
+      ← z .before .is-finite2 .ensures,
+      z .if1 .taken,
+      le-leb _ _ (c .before .before .before .if2 .taken),
+      ← c .before .before .is-idle .ensures,
+      c .before .if3 .left,
+    ) (c .summed .ensures)
 
 returns-3 : tie.Need-returns-3
 unfolding coreInputOf

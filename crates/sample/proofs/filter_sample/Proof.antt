@@ -16,7 +16,11 @@ sample-from-parts-requires c κs = search needs
 returns : tie.Need-returns
 returns c =
     let a = c .before .before .before .before .before .before .before .before .before .before .before .before .args in
-    simp (c .sample-from-parts .ensures, c .before .rest-of .ensures, c .before .before .core-controls .ensures) (parts-are-sample (now (a .bundle)) (now (a .curves)) (a .slot) (a .topology) (a .controls) (a .mode) (a .state) (a .input-sum) (a .source-energy))
+    simp (
+      c .sample-from-parts .ensures,
+      c .before .rest-of .ensures,
+      c .before .before .core-controls .ensures,
+    ) (parts-are-sample (now (a .bundle)) (now (a .curves)) (a .slot) (a .topology) (a .controls) (a .mode) (a .state) (a .input-sum) (a .source-energy))
 
 pub filter-sample-spec : {M : Type 1} → statement M
 filter-sample-spec =

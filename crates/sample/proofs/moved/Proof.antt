@@ -34,7 +34,16 @@ unfolding movedOf
 returns c =
     let s = c .before .before .before .before in
     let z = s .before .before .before in
-    simp (c .four-substeps .ensures, c .before .saturate .ensures, c .before .before .coefficients .ensures, c .before .before .before .between-bins3 .ensures, s .shift .ensures, s .before .between-bins2 .ensures, z .between-bins .ensures, z .before .pre)
+    simp (
+      c .four-substeps .ensures,
+      c .before .saturate .ensures,
+      c .before .before .coefficients .ensures,
+      c .before .before .before .between-bins3 .ensures,
+      s .shift .ensures,
+      s .before .between-bins2 .ensures,
+      z .between-bins .ensures,
+      z .before .pre,
+    )
 
 pub moved-spec : {M : Type 1} → statement M
 moved-spec =

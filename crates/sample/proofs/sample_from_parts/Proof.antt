@@ -46,7 +46,13 @@ unfolding steppedOf
 returns c =
     let f = c .before .before .before .before in
     let a = f .before .before .args in
-    simp (← f .core-input .ensures, c .before .before .enum-told .given .1, c .taken .ensures, c .before .at-rest .ensures, taken-parts (now (a .gains)) (now (a .input-drives)) (now (a .feedback-drives)) (a .core) (a .mode-output-gain))
+    simp (
+      ← f .core-input .ensures,
+      c .before .before .enum-told .given .1,
+      c .taken .ensures,
+      c .before .at-rest .ensures,
+      taken-parts (now (a .gains)) (now (a .input-drives)) (now (a .feedback-drives)) (a .core) (a .mode-output-gain),
+    )
 
 returns-2 : tie.Need-returns-2
 unfolding steppedOf
@@ -59,7 +65,15 @@ returns-3 c =
     let e = t .before in
     let f = e .before .before .before .before in
     let a = f .before .before .args in
-    simp (← f .core-input .ensures, e .before .before .fed2 .given .1, c .taken2 .ensures, c .before .moved .ensures, t .tracked-energy .ensures, e .fed-energy .ensures, taken-parts (now (a .gains)) (now (a .input-drives)) (now (a .feedback-drives)) (a .core) (a .mode-output-gain))
+    simp (
+      ← f .core-input .ensures,
+      e .before .before .fed2 .given .1,
+      c .taken2 .ensures,
+      c .before .moved .ensures,
+      t .tracked-energy .ensures,
+      e .fed-energy .ensures,
+      taken-parts (now (a .gains)) (now (a .input-drives)) (now (a .feedback-drives)) (a .core) (a .mode-output-gain),
+    )
 
 pub sample-from-parts-spec : {M : Type 1} → statement M
 sample-from-parts-spec =

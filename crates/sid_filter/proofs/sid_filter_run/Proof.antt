@@ -9,12 +9,12 @@ run-requires c κs = search needs
 cast-run-answer : tie.Need-cast-run-answer
 cast-run-answer c =
     let r = c .before .before .before .before .before in
-    record { fits = events-fit _ _ _ _ _ (r .run .ensures .0) }
+    record { fits = events-fit _ _ _ _ (r .run .ensures .0) }
 
 cast-run-answer-2 : tie.Need-cast-run-answer-2
 cast-run-answer-2 c =
     let r = c .before .before .before .before .before .before in
-    record { fits = samples-fit _ _ _ _ _ (r .run .ensures .0) }
+    record { fits = samples-fit _ _ _ _ (r .run .ensures .0) }
 
 run-answer-requires : tie.Need-run-answer-requires
 run-answer-requires c κs = search needs

@@ -19,13 +19,17 @@ feed-event-requires : tie.Need-feed-event-requires
 feed-event-requires c κs = search needs
 
 returns : tie.Need-returns
-returns c = feed-goes _ _ _ (c .before .before .before .before .before .judge-lent .ensures) (c .before .before .before .before .judge .ensures) (c .before .before .before .first .ensures) (c .before .before .is-done .ensures) (c .before .if1 .taken) (c .feed-event .ensures)
+returns c =
+    feed-goes _ _ _ (c .before .before .before .before .before .judge-lent .ensures) (c .before .before .before .before .judge .ensures)
+    (c .before .before .before .first .ensures) (c .before .before .is-done .ensures) (c .before .if1 .taken) (c .feed-event .ensures)
 
 quiet-requires : tie.Need-quiet-requires
 quiet-requires c κs = search needs
 
 returns-2 : tie.Need-returns-2
-returns-2 c = feed-refused _ _ _ (c .before .before .before .before .before .judge-lent .ensures) (c .before .before .before .before .judge .ensures) (c .before .before .before .first .ensures) (c .before .before .is-done .ensures) (c .before .if1 .left) (c .quiet .ensures)
+returns-2 c =
+    feed-refused _ _ _ (c .before .before .before .before .before .judge-lent .ensures) (c .before .before .before .before .judge .ensures)
+    (c .before .before .before .first .ensures) (c .before .before .is-done .ensures) (c .before .if1 .left) (c .quiet .ensures)
 
 pub feed-spec : {M : Type 1} → statement M
 feed-spec =

@@ -22,7 +22,10 @@ settled-requires : tie.Need-settled-requires
 settled-requires c κs = search needs
 
 returns : tie.Need-returns
-returns c = settle-reselected _ _ _ _ (c .before .before .before .before .before .before .effective-cutoff .ensures) (c .before .before .before .before .read-mode-output-gain .ensures) (c .before .before .before .refresh-register-output-state .ensures) (c .before .before .gain-value .ensures) (c .before .gain-answer .ensures) (c .settled .ensures)
+returns c =
+    settle-reselected _ _ _ _ (c .before .before .before .before .before .before .effective-cutoff .ensures)
+    (c .before .before .before .before .read-mode-output-gain .ensures) (c .before .before .before .refresh-register-output-state .ensures)
+    (c .before .before .gain-value .ensures) (c .before .gain-answer .ensures) (c .settled .ensures)
 
 pub reselected-spec : {M : Type 1} → statement M
 reselected-spec =

@@ -1,6 +1,6 @@
 use borrow.Author.Needs.{needs}
-use Rattle.direct.proofs.finished.Statement.{statement}
-use Rattle.direct.proofs.finished.Tie as tie
+use Rattle.direct.proofs.judged_value.Statement.{statement}
+use Rattle.direct.proofs.judged_value.Tie as tie
 
 is-finite-requires : tie.Need-is-finite-requires
 is-finite-requires c κs = search needs
@@ -24,8 +24,8 @@ returns-2 c =
     let z = c .before .before in
     simp (← z .before .before .is-finite .ensures, ← z .before .unless .ensures, ← z .first .ensures, ← c .before .is-done .ensures, c .if1 .left)
 
-pub finished-spec : {M : Type 1} → statement M
-finished-spec =
+pub judged-value-spec : {M : Type 1} → statement M
+judged-value-spec =
     tie.close
     (tie.spec
     is-finite-requires

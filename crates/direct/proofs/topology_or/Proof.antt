@@ -1,6 +1,6 @@
 use borrow.Author.Needs.{needs}
-use Rattle.sid_filter.proofs.value_of.Statement.{statement}
-use Rattle.sid_filter.proofs.value_of.Tie as tie
+use Rattle.direct.proofs.topology_or.Statement.{statement}
+use Rattle.direct.proofs.topology_or.Tie as tie
 
 is-done-requires : tie.Need-is-done-requires
 is-done-requires c κs = search needs
@@ -11,5 +11,5 @@ returns c = simp (← c .before .is-done .ensures, c .if1 .taken)
 returns-2 : tie.Need-returns-2
 returns-2 c = simp (← c .before .is-done .ensures, c .if1 .left)
 
-pub value-of-spec : {M : Type 1} → statement M
-value-of-spec = tie.close (tie.spec is-done-requires returns returns-2)
+pub topology-or-spec : {M : Type 1} → statement M
+topology-or-spec = tie.close (tie.spec is-done-requires returns returns-2)

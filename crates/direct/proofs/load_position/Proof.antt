@@ -1,7 +1,7 @@
-use Rattle.sid_filter.specs.Calls.{loadPositionCallOf}
+use Rattle.direct.specs.Calls.{loadPositionCallOf}
 use borrow.Author.Needs.{needs}
-use Rattle.sid_filter.proofs.load_position.Statement.{statement}
-use Rattle.sid_filter.proofs.load_position.Tie as tie
+use Rattle.direct.proofs.load_position.Statement.{statement}
+use Rattle.direct.proofs.load_position.Tie as tie
 
 is-finite-requires : tie.Need-is-finite-requires
 is-finite-requires c κs = search needs
@@ -12,12 +12,12 @@ unless-requires c κs = search needs
 load-position-requires : tie.Need-load-position-requires
 load-position-requires c κs = search needs
 
-position-of-requires : tie.Need-position-of-requires
-position-of-requires c κs = search needs
+load-or-requires : tie.Need-load-or-requires
+load-or-requires c κs = search needs
 
 returns : tie.Need-returns
 unfolding loadPositionCallOf
-returns c = simp (c .position-of .ensures, c .before .load-position .ensures, c .before .before .unless .ensures, c .before .before .before .is-finite .ensures)
+returns c = simp (c .load-or .ensures, c .before .load-position .ensures, c .before .before .unless .ensures, c .before .before .before .is-finite .ensures)
 
 pub load-position-spec : {M : Type 1} → statement M
 load-position-spec =
@@ -26,5 +26,5 @@ load-position-spec =
     is-finite-requires
     unless-requires
     load-position-requires
-    position-of-requires
+    load-or-requires
     returns)

@@ -1,6 +1,6 @@
 use borrow.Author.Needs.{needs}
-use Rattle.direct.proofs.advanced_of.Statement.{statement}
-use Rattle.direct.proofs.advanced_of.Tie as tie
+use Rattle.direct.proofs.advanced_or.Statement.{statement}
+use Rattle.direct.proofs.advanced_or.Tie as tie
 
 is-done-requires : tie.Need-is-done-requires
 is-done-requires c κs = search needs
@@ -11,5 +11,5 @@ returns c = simp (← c .before .is-done .ensures, c .if1 .taken)
 returns-2 : tie.Need-returns-2
 returns-2 c = simp (← c .before .is-done .ensures, c .if1 .left)
 
-pub advanced-of-spec : {M : Type 1} → statement M
-advanced-of-spec = tie.close (tie.spec is-done-requires returns returns-2)
+pub advanced-or-spec : {M : Type 1} → statement M
+advanced-or-spec = tie.close (tie.spec is-done-requires returns returns-2)
