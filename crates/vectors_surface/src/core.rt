@@ -1,8 +1,8 @@
 // Records of the filter's core: what is kept of a state, and a sample. Each starts with a state's block.
 use control::DecodedState;
 use control::State;
-use refresh::Refreshed;
 use mixing::MixingTopology;
+use refresh::Refreshed;
 use replay::has_flag;
 use replay::has_floats;
 use replay::has_size;

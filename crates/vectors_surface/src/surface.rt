@@ -1,4 +1,4 @@
-// Records of the bundle, the surface in it and the curves. Document 01 refuses an argument that is not finite; what is refused is 0.
+// Records of the bundle, the surface in it and the curves. An argument that is not finite is refused; what is refused is 0.
 use answers::Answer;
 
 pub(crate) fn word(r: &[u8], bundle: &[u8]) -> bool {
