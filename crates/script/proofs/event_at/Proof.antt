@@ -12,14 +12,14 @@ sub-if2 c = search needs
 add-end : tie.Need-add-end
 add-end c = search needs
 
-sub-decode : tie.Need-sub-decode
-sub-decode c = search needs
+sub-decode-event : tie.Need-sub-decode-event
+sub-decode-event c = search needs
 
-part-decode-start : tie.Need-part-decode-start
-part-decode-start c = search needs
+part-decode-event-start : tie.Need-part-decode-event-start
+part-decode-event-start c = search needs
 
-part-decode-end : tie.Need-part-decode-end
-part-decode-end c = search needs
+part-decode-event-end : tie.Need-part-decode-event-end
+part-decode-event-end c = search needs
 
 decode-event-requires : tie.Need-decode-event-requires
 decode-event-requires c κs = search needs
@@ -41,9 +41,9 @@ event-at-spec =
     (tie.spec
     sub-if2
     add-end
-    sub-decode
-    part-decode-start
-    part-decode-end
+    sub-decode-event
+    part-decode-event-start
+    part-decode-event-end
     decode-event-requires
     returns
     returns-2
