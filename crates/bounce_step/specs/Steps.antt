@@ -1,4 +1,4 @@
--- What a script's step gives: document 01's number for its answer, how many bytes the samples and the line have, and the buffers that were lent to be written.
+-- What a script's step gives: the number of its answer, how many bytes the samples and the line have, and the buffers that were lent to be written.
 use Prim.Native.Nat.{ℕ, _*_}
 use mathlib.Core.List.{List}
 use Rattle.answers.specs.Answers.{numberOf}

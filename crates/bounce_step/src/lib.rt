@@ -12,7 +12,7 @@ ghost use Rattle.bounce_step.specs.Steps.{stepOf};
 pub use lines::script_line;
 use text::push;
 
-// Document 01's number for the answer, and how many bytes the samples and the line have.
+// The answer's number, and how many bytes the samples and the line have.
 pub struct Stepped {
     pub number: u32,
     pub samples: usize,

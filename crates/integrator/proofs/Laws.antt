@@ -11,7 +11,7 @@ use Rattle.integrator.specs.declared.IntegratorState.{IntegratorState}
 use Rattle.integrator.specs.declared.Substeps.{Substeps}
 use Rattle.integrator.specs.declared.Substeps.the-variants.{Settled, NotFinite}
 use Rattle.integrator.specs.Integrator.{advanceOf, highFinite, inDomain, substepOf, thenOf, fourSubstepsOf}
-use Rattle.integrator.specs.Tried.{triedOf, triedAfter, withFiniteLow}
+use Rattle.integrator.specs.Tried.{triedOf, triedAfterOf, withFiniteLowOf}
 
 -- ---- one capacitor
 
@@ -99,11 +99,11 @@ module _ (driven : Float) (k : Coefficients) where
 
   -- n more are tried after a substep, and low's last state is tested
   unfoldable rest : ℕ → Substeps → Substeps
-  rest zero x = withFiniteLow x
-  rest (suc n) x = rest n (triedAfter x driven k)
+  rest zero x = withFiniteLowOf x
+  rest (suc n) x = rest n (triedAfterOf x driven k)
 
   rest-none : (n : ℕ) → rest n NotFinite ≡ NotFinite
-  unfolding rest triedAfter withFiniteLow
+  unfolding rest triedAfterOf withFiniteLowOf
   rest-none zero = refl
   rest-none (suc n) = rest-none n
 
@@ -118,7 +118,7 @@ module _ (driven : Float) (k : Coefficients) where
 
   -- where low's state is not finite, no later one is
   lost : (n : ℕ) (s : IntegratorState) → finite (s .«low_state») ≡ false → rest n (tried s) ≡ NotFinite
-  unfolding rest triedAfter withFiniteLow
+  unfolding rest triedAfterOf withFiniteLowOf
   lost zero s h = rw (rest-tried zero s, still-lost s h, same (highFinite (step s)), same (bandFinite (step s)))
   lost (suc n) s h = rw (rest-tried (suc n) s, lost n (step s .state) (still-lost s h), same (highFinite (step s)), same (bandFinite (step s)))
 
@@ -136,7 +136,7 @@ module _ (driven : Float) (k : Coefficients) where
   energy-kept s e = e
 
   row-told : (n : ℕ) (s : IntegratorState) → finite (s .«filter_source_energy») ≡ true → rest n (tried s) ≡ more n (substepOf s driven k)
-  unfolding more thenOf rest triedOf triedAfter withFiniteLow
+  unfolding more thenOf rest triedOf triedAfterOf withFiniteLowOf
   row-told zero s e = rw (substep-is s e, rest-tried zero s) (in-turn (Settled (step s)) (bandFinite (step s)) (highFinite (step s)) (lowFinite (step s)))
   row-told (suc n) s e =
       rw (substep-is s e, rest-tried (suc n) s) (go (lowFinite (step s)) (bandFinite (step s)) (highFinite (step s)) refl (row-told n (step s .state) (energy-kept s e)))
@@ -151,7 +151,7 @@ module _ (driven : Float) (k : Coefficients) where
 -- what `four_substeps` answers, by its test of the energy
 module _ (s : IntegratorState) (driven : Float) (k : Coefficients) where
   pub four-told : finite (s .«filter_source_energy») ≡ true
-      → withFiniteLow (triedAfter (triedAfter (triedAfter (triedOf s driven k) driven k) driven k) driven k) ≡ fourSubstepsOf s driven k
+      → withFiniteLowOf (triedAfterOf (triedAfterOf (triedAfterOf (triedOf s driven k) driven k) driven k) driven k) ≡ fourSubstepsOf s driven k
   unfolding fourSubstepsOf more rest
   four-told e = row-told driven k 3 s e
 

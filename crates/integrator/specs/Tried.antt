@@ -1,5 +1,5 @@
--- The substeps as `four_substeps` looks at them: of a substep's state band's number alone, which is there before low is worked out, and of its outputs high; after
--- the last one low's state too. Laws.antt of proofs/ shows that it comes to `fourSubstepsOf`.
+-- The substeps as `four_substeps` looks at them: of a substep's state band's number alone, which is there before low is worked out, and of its outputs high;
+-- after the last one low's state too. Laws.antt of proofs/ shows that it comes to `fourSubstepsOf`, so a reader of a promise needs none of it.
 use mathlib.Core.Bool.{cond}
 use lib.Ieee.{Float}
 use lib.Ieee.Scale.{finite}
@@ -30,10 +30,10 @@ triedOf s driven-input k =
     let a = advanceOf s driven-input k in
     cond (finite (a .state .«band_state»)) (cond (highFinite a) (Settled a) NotFinite) NotFinite
 
-unfoldable pub triedAfter : Substeps → Float → Coefficients → Substeps
-triedAfter (Settled a) driven-input k = triedOf (a .state) driven-input k
-triedAfter NotFinite driven-input k = NotFinite
+unfoldable pub triedAfterOf : Substeps → Float → Coefficients → Substeps
+triedAfterOf (Settled a) driven-input k = triedOf (a .state) driven-input k
+triedAfterOf NotFinite driven-input k = NotFinite
 
-unfoldable pub withFiniteLow : Substeps → Substeps
-withFiniteLow (Settled a) = cond (finite (a .state .«low_state»)) (Settled a) NotFinite
-withFiniteLow NotFinite = NotFinite
+unfoldable pub withFiniteLowOf : Substeps → Substeps
+withFiniteLowOf (Settled a) = cond (finite (a .state .«low_state»)) (Settled a) NotFinite
+withFiniteLowOf NotFinite = NotFinite

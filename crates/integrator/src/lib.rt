@@ -3,7 +3,7 @@
 ghost use mathlib.Core.Path.{_≡_};
 ghost use Rattle.floats.specs.Arithmetic.{_⊕_, _⊖_, _⊗_, f32};
 ghost use Rattle.integrator.specs.Integrator.{saturateOf, advanceOf, fourSubstepsOf};
-ghost use Rattle.integrator.specs.Tried.{concludedOf, triedOf, triedAfter, withFiniteLow};
+ghost use Rattle.integrator.specs.Tried.{concludedOf, triedOf, triedAfterOf, withFiniteLowOf};
 
 #[repr(C)]
 pub struct FilterOutputs {
@@ -112,7 +112,7 @@ impl IntegratorState {
 
     // The same, and whether band's next state and the high output are finite. The test between band and low keeps the compiler from pairing the two in one
     // vector, whose shuffles would stand on the chain of the substeps.
-    fn substep(self, driven_input: f32, k: Coefficients) -> Substeps
+    fn tried(self, driven_input: f32, k: Coefficients) -> Substeps
         ensures { λ r. ⌜ r ≡ triedOf self «driven_input» k ⌝ }
     {
         let effective_input = self.effective_input(driven_input, k);
@@ -135,10 +135,10 @@ impl IntegratorState {
         ensures { λ r. ⌜ r ≡ fourSubstepsOf self «driven_input» k ⌝ }
     {
         if floats::is_finite(self.filter_source_energy) {
-            let first = self.substep(driven_input, k);
-            let second = substep_after(first, driven_input, k);
-            let third = substep_after(second, driven_input, k);
-            let fourth = substep_after(third, driven_input, k);
+            let first = self.tried(driven_input, k);
+            let second = tried_after(first, driven_input, k);
+            let third = tried_after(second, driven_input, k);
+            let fourth = tried_after(third, driven_input, k);
             return with_finite_low(fourth);
         }
         Substeps::NotFinite
@@ -146,20 +146,20 @@ impl IntegratorState {
 }
 
 // A further substep, where the last one stayed in the domain.
-fn substep_after(last: Substeps, driven_input: f32, k: Coefficients) -> Substeps
-    ensures { λ r. ⌜ r ≡ triedAfter last «driven_input» k ⌝ }
+fn tried_after(last: Substeps, driven_input: f32, k: Coefficients) -> Substeps
+    ensures { λ r. ⌜ r ≡ triedAfterOf last «driven_input» k ⌝ }
 {
     match last {
         Substeps::Settled(advanced) => {
             let state = advanced.state;
-            state.substep(driven_input, k)
+            state.tried(driven_input, k)
         }
         Substeps::NotFinite => Substeps::NotFinite,
     }
 }
 
 fn with_finite_low(last: Substeps) -> Substeps
-    ensures { λ r. ⌜ r ≡ withFiniteLow last ⌝ }
+    ensures { λ r. ⌜ r ≡ withFiniteLowOf last ⌝ }
 {
     match last {
         Substeps::Settled(advanced) => {

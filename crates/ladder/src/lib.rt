@@ -108,7 +108,7 @@ fn diagonal(source: f64, terminated: bool) -> [f64; 12]
 }
 
 // The right side when one node's branch is driven.
-fn drive(source: f64, active: usize) -> [f64; 12]
+fn right_side(source: f64, active: usize) -> [f64; 12]
     requires { ⌜ active < 12 ⌝ }
     ensures { λ r. ⌜ r ≡ rightSideOf source active ⌝ }
 {
@@ -126,7 +126,7 @@ fn driven_level(source: f64, diagonal: &[f64; 12], active: usize) -> f64
     lower[0] = 0.0;
     let mut upper = [-1.0; 12];
     upper[11] = 0.0;
-    let solved = solve(&lower, diagonal, &upper, &drive(source, active));
+    let solved = solve(&lower, diagonal, &upper, &right_side(source, active));
     solved[11]
 }
 
@@ -243,7 +243,7 @@ fn positions_finite(s: Scale) -> bool
 }
 
 // Writes the 2,048 positions.
-fn put_positions(s: Scale, out: &mut [u8])
+fn position_bytes(s: Scale, out: &mut [u8])
     requires { ⌜ length (now out) ≡ 8192 ⌝ }
     ensures { λ _. ⌜ now (out .exit) ≡ positionBytesOf s ⌝ }
 {
@@ -352,7 +352,7 @@ pub fn build_cutoff_control_positions(positions: &mut [u8]) -> Answer
     if positions.len() == 8192 {
         let s = cutoff_scale();
         if positions_finite(s) {
-            put_positions(s, positions);
+            position_bytes(s, positions);
             return Answer::Done;
         }
         return Answer::Domain;

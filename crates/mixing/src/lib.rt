@@ -92,7 +92,7 @@ impl MixingTopology {
     }
 }
 
-// ---- document 01's line
+// ---- the line of text
 
 fn digit(n: usize) -> u8
     requires { ⌜ n ≤ 9 ⌝ }

@@ -85,7 +85,7 @@ pub(crate) fn answer(r: &[u8]) -> bool {
         & (wire::u32_at(r, 32) == reported.place)
 }
 
-// Document 01's table, from the number.
+// The refusal of a number (docs/FORMATS.md).
 fn answer_of(number: u32, buffer: u32, place: u32) -> Answer {
     match number {
         0 => Answer::Done,

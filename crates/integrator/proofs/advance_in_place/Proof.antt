@@ -46,13 +46,13 @@ use Rattle.integrator.specs.declared.FilterOutputs.{FilterOutputs}
 use Rattle.integrator.specs.declared.Coefficients.{Coefficients}
 use Rattle.integrator.specs.declared.Advanced.{Advanced}
 use Rattle.integrator.proofs.IntegratorState as T
-use Rattle.integrator.proofs.IntegratorState.Laws as T′
+use Rattle.integrator.proofs.IntegratorState.Laws as Tl
 use Rattle.integrator.proofs.FilterOutputs as O
-use Rattle.integrator.proofs.FilterOutputs.Laws as O′
+use Rattle.integrator.proofs.FilterOutputs.Laws as Ol
 use Rattle.integrator.proofs.Coefficients as K
-use Rattle.integrator.proofs.Coefficients.Laws as K′
+use Rattle.integrator.proofs.Coefficients.Laws as Kl
 use Rattle.integrator.proofs.Advanced as R
-use Rattle.integrator.proofs.Advanced.Laws as R′
+use Rattle.integrator.proofs.Advanced.Laws as Rl
 use Rattle.integrator.proofs.IntegratorState.advance as adv
 use Rattle.integrator.proofs.IntegratorState.advance.Symbol as adv-def
 use Rattle.integrator.proofs.IntegratorState.advance.Symbol.{name as #integrator·step}
@@ -70,16 +70,16 @@ stayed = (stay-ref (0 ∷ []) tt (plain (λ _. T.the-row)), (stay-none (λ _. f3
 
 -- the machine values
 abbrev machS : IntegratorState → Val
-machS s = LL.tuple-val T.the-type T′.the-laws (T.the-type .to s)
+machS s = LL.tuple-val T.the-type Tl.the-laws (T.the-type .to s)
 
 abbrev machO : FilterOutputs → Val
-machO s = LL.tuple-val O.the-type O′.the-laws (O.the-type .to s)
+machO s = LL.tuple-val O.the-type Ol.the-laws (O.the-type .to s)
 
 abbrev machK : Coefficients → Val
-machK s = LL.tuple-val K.the-type K′.the-laws (K.the-type .to s)
+machK s = LL.tuple-val K.the-type Kl.the-laws (K.the-type .to s)
 
 abbrev machV : Advanced → Val
-machV s = LL.tuple-val R.the-type R′.the-laws (R.the-type .to s)
+machV s = LL.tuple-val R.the-type Rl.the-laws (R.the-type .to s)
 
 module _ {M : Type 1} (𝓤 : URA M) (H : Heap 𝓤) (A : Atoms 𝓤) (at-mem : Memory → SProp 𝓤) (run : Routine → Fun 𝓤) where
   -- the contract that the proof cites
@@ -108,16 +108,16 @@ module _
       qed W (‵ (fobs γ (T.the-row .coded .code (r .state))) ∷ ‵ (fbor κ (Body (mem T.the-row) b o γ)) ∷ ‵ (flft κ q) ∷ []) ∵
       suffices ! _ (ends-at 𝓤 H A f.ended stayed (f.clauses 𝓤 H A at-mem run) W (((κ, tt), (q, tt), tt, x, at), tt) (machO (r .outputs)) (r .outputs) (r .state, (tt, (tt, tt))) (tt, (tt, (tt, tt)))) $
       says ! (ap (λ (a : Advanced). a .outputs) e, ap (λ (a : Advanced). a .state) e) $ nothing ! $ move ! (3 ∷ 0 ∷ []) $ join ! $
-      frame ! $ feqI ! (List Val) (vptr b o ∷ []) (vptr b o ∷ []) refl $ fjoin3 ! $ nothing ! $ owned ! K.the-row (Is K.the-row) ((LL.makes K.the-type K′.the-plain) 𝓤 H A) k _ ok-k $ fjoin ! $
+      frame ! $ feqI ! (List Val) (vptr b o ∷ []) (vptr b o ∷ []) refl $ fjoin3 ! $ nothing ! $ owned ! K.the-row (Is K.the-row) ((LL.makes K.the-type Kl.the-plain) 𝓤 H A) k _ ok-k $ fjoin ! $
       owned ! f32 (Is f32) (float-makes 𝓤 H A W binary32) n _ (refl, ok-n) $ fjoin ! $ move ! (1 ∷ 0 ∷ []) $ fjoin ! $
-      owned ! O.the-row (Is O.the-row) ((LL.makes O.the-type O′.the-plain) 𝓤 H A) (r .outputs) _ is-o $ move ! (1 ∷ 0 ∷ []) $ done !
+      owned ! O.the-row (Is O.the-row) ((LL.makes O.the-type Ol.the-plain) 𝓤 H A) (r .outputs) _ is-o $ move ! (1 ∷ 0 ∷ []) $ done !
 
   abbrev to-adv : Adv 𝓤 H A at-mem run .Ghost
   to-adv = ((tt, tt, tt, (h, (n, (k, tt))), (machS h ∷ [], (vfloat binary32 n ∷ [], (machK k ∷ [], tt)))), tt)
 
   goes-adv : ent 𝓤 (sem 𝓤 H A (T.the-row .own h (machS h ∷ []))) (Adv 𝓤 H A at-mem run .pre to-adv)
   goes-adv =
-      qed W (‵ (T.the-row .own h (machS h ∷ [])) ∷ []) ∵ nothing ! $ owned ! K.the-row (Is K.the-row) ((LL.makes K.the-type K′.the-plain) 𝓤 H A) k _ ok-k $ fjoin ! $
+      qed W (‵ (T.the-row .own h (machS h ∷ [])) ∷ []) ∵ nothing ! $ owned ! K.the-row (Is K.the-row) ((LL.makes K.the-type Kl.the-plain) 𝓤 H A) k _ ok-k $ fjoin ! $
       owned ! f32 (Is f32) (float-makes 𝓤 H A W binary32) n _ (refl, ok-n) $ fjoin ! $ move ! (1 ∷ 0 ∷ []) $ fjoin ! $ nothing ! $ join ! $ frame ! $ done !
 
   module _ (C : Calls 𝓤 H) (Λ : Loops 𝓤 H) (fm : FmC 𝓤 H (W .laws) C) (known : Triple 𝓤 (C #integrator·step) (Adv 𝓤 H A at-mem run)) where
@@ -129,12 +129,12 @@ module _
         enter ! C Λ code.function (vptr b o ∷ vfloat binary32 n ∷ machK k ∷ []) _ $
         alloc1 ! (λ l₀. alloc1 ! (λ l₁. alloc1 ! (λ l₂. alloc1 ! (λ l₃. alloc1 ! (λ l₄. alloc1 ! (λ l₅. alloc0 ! $ params1 ! $ pass1 ! (init ! 8 refl (tt, tt)) $
         pass1 ! (init ! 6 refl (tt, passes _ ok-n)) $
-        pass1 ! (init ! 4 refl (LL.lawful K.the-type K′.the-laws 𝓤 H A W .typed k _ ok-k .0)) $ pass0 ! $
+        pass1 ! (init ! 4 refl (LL.lawful K.the-type Kl.the-laws 𝓤 H A W .typed k _ ok-k .0)) $ pass0 ! $
         move ! (12 ∷ 13 ∷ 14 ∷ []) $
-        opens ! tt T.the-row {h = h} b o (λ vs. spelt ! T.the-row (Is T.the-row) (shows 𝓤 H A T.the-row) (LL.vals T.the-type T′.the-laws) (LL.tells T.the-type T′.the-laws) fullShare h vs b o $
-        move ! (1 ∷ []) $ peeks ! T.the-row (Is T.the-row) (shows 𝓤 H A T.the-row) h (LL.vals T.the-type T′.the-laws h) (λ was. move ! (1 ∷ 0 ∷ []) $
+        opens ! tt T.the-row {h = h} b o (λ vs. spelt ! T.the-row (Is T.the-row) (shows 𝓤 H A T.the-row) (LL.vals T.the-type Tl.the-laws) (LL.tells T.the-type Tl.the-laws) fullShare h vs b o $
+        move ! (1 ∷ []) $ peeks ! T.the-row (Is T.the-row) (shows 𝓤 H A T.the-row) h (LL.vals T.the-type Tl.the-laws h) (λ was. move ! (1 ∷ 0 ∷ []) $
         -- [the struct's cell; what the state owns; the open borrow; obs; auth; _5; …; _4; …; _3; …; _2; …; _1; …; room for _0; …]
-        assigns ! (of-opd ! (load ! (from ! (hop ! (look ! 13 refl) (stop !))) (look-raw ! 0 refl))) (from ! (stop !)) (init ! 5 refl (LL.lawful T.the-type T′.the-laws 𝓤 H A W .typed h _ was .0)) $
+        assigns ! (of-opd ! (load ! (from ! (hop ! (look ! 13 refl) (stop !))) (look-raw ! 0 refl))) (from ! (stop !)) (init ! 5 refl (LL.lawful T.the-type Tl.the-laws 𝓤 H A W .typed h _ was .0)) $
         move ! (1 ∷ []) $ use1 W (raw (Adv 𝓤 H A at-mem run .pre to-adv)) goes-adv $
         calls-at ! fm (Adv 𝓤 H A at-mem run) known to-adv
         (and-then ! (load ! (from ! (stop !)) (look ! 5 refl)) (and-then ! (load ! (from ! (stop !)) (look ! 11 refl)) (and-then ! (load ! (from ! (stop !)) (look ! 9 refl)) (no-more !)))) (λ v.
@@ -142,26 +142,26 @@ module _
         await ! tt $ pick ! (λ r.
         split ! $ move ! (1 ∷ []) $ use1 W (raw (fact 𝓤 (r ≡ advanceOf h n k))) (adv-of 𝓤 H A at-mem run h n k r) $ heard ! (r ≡ advanceOf h n k) (λ e. split ! $ drop ! $
         peeks ! R.the-row (Is R.the-row) (shows 𝓤 H A R.the-row) r (v ∷ []) (λ is.
-        land ! (from ! (stop !)) (init ! 7 refl (LL.lawful R.the-type R′.the-laws 𝓤 H A W .typed r _ is .0)) $
-        rewrite ! 7 (λ (u : Val). ‵ (fat fullShare R′.mir l₄ 0 u)) (ap only (LL.tells R.the-type R′.the-laws r (v ∷ []) is)) refl $
+        land ! (from ! (stop !)) (init ! 7 refl (LL.lawful R.the-type Rl.the-laws 𝓤 H A W .typed r _ is .0)) $
+        rewrite ! 7 (λ (u : Val). ‵ (fat fullShare Rl.mir l₄ 0 u)) (ap only (LL.tells R.the-type Rl.the-laws r (v ∷ []) is)) refl $
         -- [what the answer owns; the struct's cell; the open borrow; obs; auth; _5; …; _4; …; _3; …; _2; …; _1; …; room for _0; …]
         assigns ! (of-opd ! (load ! (from ! (fld ! refl (stop !))) (look-in ! 7 (sub ! 1 refl (whole !))))) (from ! (hop ! (look ! 13 refl) (stop !)))
-        (store-raw ! 1 refl (LL.lawful T.the-type T′.the-laws 𝓤 H A W .typed (r .state) _ (LL.owed R.the-type R′.the-laws r _ is .1 .0) .0)) $
+        (store-raw ! 1 refl (LL.lawful T.the-type Tl.the-laws 𝓤 H A W .typed (r .state) _ (LL.owed R.the-type Rl.the-laws r _ is .1 .0) .0)) $
         assigns ! (of-opd ! (load ! (from ! (fld ! refl (stop !))) (look-in ! 7 (sub ! 0 refl (whole !))))) (from ! (stop !))
-        (init ! 15 refl (LL.lawful O.the-type O′.the-laws 𝓤 H A W .typed (r .outputs) _ (LL.owed R.the-type R′.the-laws r _ is .0) .0)) $
-        drop ! $ owned ! T.the-row (Is T.the-row) ((LL.makes T.the-type T′.the-plain) 𝓤 H A) (r .state) _ (LL.owed R.the-type R′.the-laws r _ is .1 .0) $ move ! (1 ∷ 0 ∷ []) $
+        (init ! 15 refl (LL.lawful O.the-type Ol.the-laws 𝓤 H A W .typed (r .outputs) _ (LL.owed R.the-type Rl.the-laws r _ is .0) .0)) $
+        drop ! $ owned ! T.the-row (Is T.the-row) ((LL.makes T.the-type Tl.the-plain) 𝓤 H A) (r .state) _ (LL.owed R.the-type Rl.the-laws r _ is .1 .0) $ move ! (1 ∷ 0 ∷ []) $
         closes ! tt T.the-row (r .state) (machS (r .state) ∷ []) b o $
         returns ! (look ! 13 refl) $ forget ! 3 refl $ forget ! 5 refl $ forget ! 7 refl $ forget ! 9 refl $ forget ! 11 refl $ forget ! 13 refl $
         move ! (13 ∷ 14 ∷ []) $ free1 ! $ move ! (11 ∷ 12 ∷ []) $ free1 ! $ move ! (9 ∷ 10 ∷ []) $ free1 ! $ move ! (7 ∷ 8 ∷ []) $ free1 ! $ move ! (5 ∷ 6 ∷ []) $ free1 ! $ move ! (3 ∷ 4 ∷ []) $
         free1 ! $ free0 ! $
-        keep ! (0 ∷ 1 ∷ 2 ∷ []) $ by ! (exits r e (LL.owed R.the-type R′.the-laws r _ is .0))))))))))))))
+        keep ! (0 ∷ 1 ∷ 2 ∷ []) $ by ! (exits r e (LL.owed R.the-type Rl.the-laws r _ is .0))))))))))))))
 
 module _ {M : Type 1} (𝓤 : URA M) (H : Heap 𝓤) (A : Atoms 𝓤) (W : Given 𝓤 H A) (at-mem : Memory → SProp 𝓤) (run : Routine → Fun 𝓤) where
   advance-in-place-walks : (C : Calls 𝓤 H) (Λ : Loops 𝓤 H) → FmC 𝓤 H (W .laws) C → Triple 𝓤 (C #integrator·step) (Adv 𝓤 H A at-mem run)
       → Walks 𝓤 H A f.ended stayed (WpFn 𝓤 H C Λ code.function) (f.clauses 𝓤 H A at-mem run)
   advance-in-place-walks C Λ fm known =
-      walked 𝓤 H A f.ended stayed (f.clauses 𝓤 H A at-mem run) (WpFn 𝓤 H C Λ code.function) (λ κs. (ptr-vals, (float-vals binary32, (LL.vals K.the-type K′.the-laws, tt))))
-      (λ κs. (mut-tells (named 0) (κs .0) T.the-row, (float-tells binary32, (LL.tells K.the-type K′.the-laws, tt))))
+      walked 𝓤 H A f.ended stayed (f.clauses 𝓤 H A at-mem run) (WpFn 𝓤 H C Λ code.function) (λ κs. (ptr-vals, (float-vals binary32, (LL.vals K.the-type Kl.the-laws, tt))))
+      (λ κs. (mut-tells (named 0) (κs .0) T.the-row, (float-tells binary32, (LL.tells K.the-type Kl.the-laws, tt))))
       (λ κs qs bounds a g are. via 𝓤 _ (fst∗ 𝓤 _ (emp 𝓤))
       (walk 𝓤 H A W at-mem run (κs .0) (qs .0) (a .0 .ptr .0) (a .0 .ptr .1) (a .0 .name) (a .0 .now) (a .1 .0) (a .1 .1 .0) (are .1 .0 .1) (are .1 .1 .0) C Λ fm known))
 

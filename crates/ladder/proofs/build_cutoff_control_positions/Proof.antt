@@ -13,8 +13,8 @@ cutoff-scale-requires c κs = search needs
 positions-finite-requires : tie.Need-positions-finite-requires
 positions-finite-requires c κs = search needs
 
-put-positions-requires : tie.Need-put-positions-requires
-put-positions-requires c κs = search needs
+position-bytes-requires : tie.Need-position-bytes-requires
+position-bytes-requires c κs = search needs
 
 same-length : tie.Need-same-length
 same-length c = search needs
@@ -25,7 +25,7 @@ returns c =
     let p = c .before .before in
     let f = p .before .before .before in
     let good : positionsFiniteOf cutoffScaleOf ≡ true = ap positionsFiniteOf (sym (f .before .cutoff-scale .ensures)) ∙ sym (f .positions-finite .ensures) ∙ p .before .before .if2 .taken in
-    rw (eq-eqb _ _ (f .before .before .if1 .taken), good, p .put-positions .ensures, f .before .cutoff-scale .ensures)
+    rw (eq-eqb _ _ (f .before .before .if1 .taken), good, p .position-bytes .ensures, f .before .cutoff-scale .ensures)
 
 returns-2 : tie.Need-returns-2
 unfolding buildCutoffControlPositionsOf
@@ -44,7 +44,7 @@ build-cutoff-control-positions-spec =
     (tie.spec
     cutoff-scale-requires
     positions-finite-requires
-    put-positions-requires
+    position-bytes-requires
     same-length
     returns
     returns-2

@@ -9,8 +9,8 @@ array-write-lower c = search needs
 array-write-upper : tie.Need-array-write-upper
 array-write-upper c = search needs
 
-drive-requires : tie.Need-drive-requires
-drive-requires c κs = search needs
+right-side-requires : tie.Need-right-side-requires
+right-side-requires c κs = search needs
 
 solve-requires : tie.Need-solve-requires
 solve-requires c κs = search needs
@@ -20,7 +20,7 @@ array-read-result c = search needs
 
 returns : tie.Need-returns
 unfolding drivenLevelOf
-returns c = rw (c .solve .ensures, c .before .before .drive .ensures)
+returns c = rw (c .solve .ensures, c .before .before .right-side .ensures)
 
 pub driven-level-spec : {M : Type 1} → statement M
 driven-level-spec =
@@ -28,7 +28,7 @@ driven-level-spec =
     (tie.spec
     array-write-lower
     array-write-upper
-    drive-requires
+    right-side-requires
     solve-requires
     array-read-result
     returns)

@@ -2,8 +2,8 @@ use mathlib.Core.Path.{sym, _∙_}
 use Rattle.integrator.specs.Integrator.{advanceOf}
 use Rattle.integrator.specs.Tried.{triedOf}
 use borrow.Author.Needs.{needs}
-use Rattle.integrator.proofs.IntegratorState.substep.Statement.{statement}
-use Rattle.integrator.proofs.IntegratorState.substep.Tie as tie
+use Rattle.integrator.proofs.IntegratorState.tried.Statement.{statement}
+use Rattle.integrator.proofs.IntegratorState.tried.Tie as tie
 
 effective-input-requires : tie.Need-effective-input-requires
 effective-input-requires c κs = search needs
@@ -71,8 +71,8 @@ returns-3 c =
       c .if1 .left,
     )
 
-pub substep-spec : {M : Type 1} → statement M
-substep-spec =
+pub tried-spec : {M : Type 1} → statement M
+tried-spec =
     tie.close
     (tie.spec
     effective-input-requires

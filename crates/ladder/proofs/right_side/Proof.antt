@@ -1,8 +1,8 @@
 use borrow.Author.Needs.{needs}
 use Rattle.ladder.specs.Arithmetic.{f64}
 use Rattle.ladder.proofs.Laws.{tabulated-one}
-use Rattle.ladder.proofs.drive.Statement.{statement}
-use Rattle.ladder.proofs.drive.Tie as tie
+use Rattle.ladder.proofs.right_side.Statement.{statement}
+use Rattle.ladder.proofs.right_side.Tie as tie
 
 mul-rhs : tie.Need-mul-rhs
 mul-rhs c = search needs
@@ -13,5 +13,5 @@ array-write-rhs c = search needs
 returns : tie.Need-returns
 returns c = tabulated-one (f64 0) _ (c .args .active) (c .pre)
 
-pub drive-spec : {M : Type 1} → statement M
-drive-spec = tie.close (tie.spec mul-rhs array-write-rhs returns)
+pub right-side-spec : {M : Type 1} → statement M
+right-side-spec = tie.close (tie.spec mul-rhs array-write-rhs returns)

@@ -11,8 +11,8 @@ use Rattle.wire.specs.Wire.{floatBytes, putAt, rows}
 use Rattle.ladder.specs.Calls.{positionBytesOf}
 use Rattle.ladder.specs.declared.Scale.{Scale}
 use Rattle.ladder.specs.Ladder.{positionOf}
-use Rattle.ladder.proofs.put_positions.Statement.{statement}
-use Rattle.ladder.proofs.put_positions.Tie as tie
+use Rattle.ladder.proofs.position_bytes.Statement.{statement}
+use Rattle.ladder.proofs.position_bytes.Tie as tie
 
 abbrev bytes : Scale → ℕ → List ℕ
 bytes s k = floatBytes (positionOf s k)
@@ -65,8 +65,8 @@ returns c =
     let s = l .before .before .args .s in
     rw (e, front-all (bytes s) 4 (length-bytes s) (l .before .before .args .out .now) 2048 (l .before .before .pre)) at (l .loop .inv .2)
 
-pub put-positions-spec : {M : Type 1} → statement M
-put-positions-spec =
+pub position-bytes-spec : {M : Type 1} → statement M
+position-bytes-spec =
     tie.close
     (tie.spec
     Inv-loop
