@@ -1,4 +1,4 @@
--- Document 01's table "Where a call turns back": the number, the buffer and the place of each answer, 0 where the table names none.
+-- The table of refusals (docs/FORMATS.md): the number, the buffer and the place of each answer, 0 where the table names none.
 use mathlib.Core.Bool.{Bool, cond}
 use Prim.Native.Nat.{ℕ}
 use lib.Dec.{eqb}

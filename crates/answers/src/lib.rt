@@ -1,4 +1,4 @@
-// What a call answers, from document 01's table "Where a call turns back".
+// What a call answers: done, or one of the refusals of docs/FORMATS.md.
 ghost use mathlib.Core.Path.{_≡_};
 ghost use Rattle.answers.specs.Answers.{numberOf, bufferNumberOf, bufferOf, placeOf, reportOf, isDoneOf, firstOf, unlessOf};
 
@@ -33,7 +33,7 @@ pub enum Answer {
     Argument,
 }
 
-// An answer as document 01 numbers it: 0 is done, and a buffer or a place that its table does not name is 0.
+// An answer as docs/FORMATS.md numbers it: 0 is done, and a buffer or a place that its table does not name is 0.
 pub struct Reported {
     pub number: u32,
     pub buffer: u32,

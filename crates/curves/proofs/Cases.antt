@@ -1,4 +1,4 @@
--- Document 01's cases of the curve positions, of every input.
+-- The curve positions of inputs past either end of the range.
 use Prim.Native.Nat.{_*_}
 use mathlib.Core.Path.{_≡_, refl, sym}
 use mathlib.Core.Bool.{true, false, true≢false}

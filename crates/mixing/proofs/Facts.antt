@@ -1,4 +1,4 @@
--- Document 01's facts of the topology: memberships are disjoint; they total four, or three exactly if mode bit 3 is set and routing bit 2
+-- Facts of the topology: memberships are disjoint; they total four, or three exactly if mode bit 3 is set and routing bit 2
 -- clear; the mixer has at most seven inputs, so that the Rust's bound changes nothing. Assumes nothing.
 use mathlib.Core.Path.{_≡_, refl, _∙_}
 use mathlib.Core.Bool.{Bool, true, false, not, _&&_, cond}

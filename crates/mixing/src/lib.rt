@@ -92,7 +92,7 @@ impl MixingTopology {
     }
 }
 
-// ---- document 01's line
+// ---- the topology as a line
 
 fn digit(n: usize) -> u8
     requires { ⌜ n ≤ 9 ⌝ }

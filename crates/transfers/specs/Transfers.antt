@@ -1,5 +1,5 @@
 -- `mixer_transfer` and `volume_transfer` of filter.rs, operation by operation, and the entries that each reads.
--- Document 01 numbers the mixer's curves 7 to 14 and the volume's 15 to 30.
+-- The mixer's curves are 7 to 14 and the volume's 15 to 30 (docs/FORMATS.md).
 use Prim.Native.Nat.{ℕ, _+_, min}
 use mathlib.Core.Bool.{cond}
 use mathlib.Core.List.{List}
