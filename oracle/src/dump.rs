@@ -337,9 +337,8 @@ const SCALARS: [f32; 73] = [
     PURE_SAW_MIXER_QUADRATIC,
 ];
 
-/// The f32 tables in that order. The drives are those of every code, the last one repeated; a single row stands as one.
+/// The f32 tables in that order. The drives are those of every code; a single row stands as one.
 fn tables_of(coefficients: &FilterCoefficients) -> Vec<Vec<Vec<f32>>> {
-    let drive = |drive: [f32; FILTER_OPERATING_BINS]| vec![[&drive[..], &drive[FILTER_OPERATING_BINS - 1..]].concat()];
     fn rows<const N: usize>(table: &[[f32; N]]) -> Vec<Vec<f32>> {
         table.iter().map(|row| row.to_vec()).collect()
     }
@@ -349,8 +348,8 @@ fn tables_of(coefficients: &FilterCoefficients) -> Vec<Vec<Vec<f32>>> {
         rows(&[FILTER_MODE_POLARITY]),
         rows(&[PURE_BYPASS_ATTACK_SCALE_BY_SELECTION]),
         rows(&SID_FROZEN_DAC_POLYNOMIAL),
-        drive(coefficients.input_drive),
-        drive(coefficients.feedback_drive),
+        rows(&[coefficients.input_drive]),
+        rows(&[coefficients.feedback_drive]),
         rows(&FILTER_SINGLE_MODE_CUTOFF_GAIN),
         rows(&FILTER_SINGLE_MODE_RESONANCE_GAIN),
         rows(&FILTER_SYMMETRIC_LOADING_GAIN),

@@ -339,8 +339,8 @@ fn sample_places(filter: &mut Filter, event: Event) -> ([usize; 2], [usize; 4]) 
     (curve_places(inputs, summer_average(t, event.sum)), resting_places(inputs))
 }
 
-/// Whether a sample may be taken of the numbers that are kept.
-fn is_ready(t: &MixingTopology, c: &ControlCache) -> bool {
+/// Whether what is kept is whole: indexes within their tables, numbers finite.
+fn is_whole(t: &MixingTopology, c: &ControlCache) -> bool {
     let tables = [c.integrator_gain, c.input_drive, c.feedback_drive];
     let numbers = [
         t.filter_input_reciprocal,
@@ -375,13 +375,12 @@ fn is_valid(r: &FilterRegisters, s: &IntegratorState) -> bool {
         && floats(s).iter().all(|x| x.is_finite())
 }
 
-/// What is refused before the event: 1, 2, 4, 10. A write takes no curves and reads the state alone, a reset not even that.
-fn refused_before(filter: &mut Filter, bundle: &[u8], curves: &[u8], event: Event) -> Option<Told> {
+/// What is refused before any event: 1, 2, 4, 10.
+fn refused_before(filter: &mut Filter, bundle: &[u8], curves: &[u8]) -> Option<Told> {
     let (registers, state, topology, control) = filter.parts();
     bundle_refused(bundle)
-        .or_else(|| unless(event.kind != 4 || curves.len() == CURVES_LENGTH, 4))
-        .or_else(|| unless(event.kind == 5 || is_valid(registers, state), 10))
-        .or_else(|| unless(event.kind != 4 || is_ready(topology, control), 10))
+        .or_else(|| unless(curves.len() == CURVES_LENGTH, 4))
+        .or_else(|| unless(is_valid(registers, state) && is_whole(topology, control), 10))
 }
 
 /// What a sample is refused with before it is taken: 5, 9, 3.
@@ -430,7 +429,7 @@ const DONE: Told = (0, 0, 0);
 
 /// Feeds an event to the Rust's filter, which stays as it was where the event is refused. The outputs are a sample's, else zeros.
 fn feed(tally: &mut Tally, filter: &mut Filter, bundle: &[u8], curves: &[u8], event: Event) -> (Told, [f32; 4]) {
-    let refused = refused_before(filter, bundle, curves, event);
+    let refused = refused_before(filter, bundle, curves);
     let refused = refused.or_else(|| if event.kind == 4 { sample_refused(filter, bundle, curves, event) } else { None });
     if let Some(told) = refused {
         return (told, [0.0; 4]);
@@ -792,19 +791,15 @@ fn handed_in(lent: &mut Lent) -> Reached {
 /// The order of the causes that an event on a core may have (docs/FORMATS.md).
 const ORDER: [u32; 8] = [1, 2, 4, 10, 5, 9, 3, 6];
 
-/// Every set of causes, on every kind of event: the first cause that the kind looks for is answered. A write has no look at curves, sum, energy and
-/// what a sample reads, a reset none at the state either.
+/// Every set of causes, on every kind of event: the first cause that the kind looks for is answered. A write or a reset has no look at sum, energy,
+/// the mixer's count and what a sample reads.
 fn causes(lent: &mut Lent) -> Reached {
     let (mut reached, mut random) = (Reached::default(), Random(44));
     let Lent { bundle, curves, filter } = lent;
     for turn in 0..256 * 6 * 20 {
         let (set, kind, bits) = (turn % 256, (turn / 256 % 6) as u8, random.bits());
         let has = |cause: u32| ORDER.iter().zip(0..).any(|(&number, bit)| number == cause && set >> bit & 1 == 1);
-        let looks_for: &[u32] = match kind {
-            4 => &ORDER,
-            5 => &[1, 2, 3],
-            _ => &[1, 2, 10, 3],
-        };
+        let looks_for: &[u32] = if kind == 4 { &ORDER } else { &[1, 2, 4, 10, 3] };
         put(filter, &valid_block(&mut random));
         *filter.state() = IntegratorState { band_state: 0.5, low_state: -0.25, filter_source_energy: 0.125 };
         if has(6) {
@@ -826,9 +821,9 @@ fn causes(lent: &mut Lent) -> Reached {
             topology.mixer_input_count = 8;
         }
         match if has(10) { bits >> 16 & 3 } else { 4 } {
-            1 if kind == 4 => topology.filter_input_count = 5,
-            2 if kind == 4 => topology.summer_input_reciprocal = f32::NAN,
-            3 if kind == 4 => control.damping = f32::NAN,
+            1 => topology.filter_input_count = 5,
+            2 => topology.summer_input_reciprocal = f32::NAN,
+            3 => control.damping = f32::NAN,
             4 => {}
             _ => filter.registers().cutoff = 2048,
         }

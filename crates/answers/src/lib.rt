@@ -33,7 +33,7 @@ pub enum Answer {
     Argument,
 }
 
-// An answer as docs/FORMATS.md numbers it: 0 is done, and a buffer or a place that its table does not name is 0.
+// An answer by its number: 0 is done, and a buffer or a place that the table of refusals does not name is 0.
 pub struct Reported {
     pub number: u32,
     pub buffer: u32,

@@ -16,6 +16,7 @@ use Rattle.wire.proofs.Laws.{le-or-lt}
 use Rattle.answers.specs.Answers.{isDoneOf}
 use Rattle.control.specs.Block.{fieldsOf}
 use Rattle.script.specs.Script.{eventsOf}
+use Rattle.filter.specs.Lent.{Lent}
 use Rattle.run.specs.Run.{Ran, playedOf, sampleBytes, judgeRunOf, Run, leftOf, runOf}
 use Rattle.run.specs.declared.Ended.{Ended}
 use Rattle.run.specs.Rows.{endedOf}
@@ -151,16 +152,16 @@ decimal-is n (suc k) l f =
 -- ---- a run's samples
 
 -- The bytes of the samples that a run wrote lie in its output, whose length it keeps.
-module _ (bundle curves block script output : List ℕ) where
+module _ (lent : Lent) (block script output : List ℕ) where
   abbrev ran : Ran
-  ran = playedOf bundle curves (fieldsOf block) (eventsOf script)
+  ran = playedOf lent (fieldsOf block) (eventsOf script)
 
   abbrev refused : Run
-  refused = record { answer = judgeRunOf bundle curves block script (length output); events = 0; samples = 0; state = block; output = output }
+  refused = record { answer = judgeRunOf lent block script (length output); events = 0; samples = 0; state = block; output = output }
 
-  samples-in : length (runOf bundle curves block script output .output) ≡ length output → 16 * runOf bundle curves block script output .samples ≤ length output
+  samples-in : length (runOf lent block script output .output) ≡ length output → 16 * runOf lent block script output .samples ≤ length output
   unfolding runOf
-  samples-in = go (isDoneOf (judgeRunOf bundle curves block script (length output)))
+  samples-in = go (isDoneOf (judgeRunOf lent block script (length output)))
     where
       go : (d : Bool) → length (cond d (leftOf ran output) refused .output) ≡ length output → 16 * cond d (leftOf ran output) refused .samples ≤ length output
       go true e =
@@ -169,11 +170,11 @@ module _ (bundle curves block script output : List ℕ) where
       go false e = omega arith
 
   -- the same of what the run answers
-  module _ {e : Ended} (is : e ≡ endedOf (runOf bundle curves block script output)) where
+  module _ {e : Ended} (is : e ≡ endedOf (runOf lent block script output)) where
     pub samples-fit : 16 * e .samples < 2 ^ 64
-    samples-fit = rw is (omega (arith, run-most bundle curves block script output .1))
+    samples-fit = rw is (omega (arith, run-most lent block script output .1))
 
-    pub samples-count : {after : List ℕ} → after ≡ runOf bundle curves block script output .output → length after ≡ length output → Counts (16 * e .samples) after
+    pub samples-count : {after : List ℕ} → after ≡ runOf lent block script output .output → length after ≡ length output → Counts (16 * e .samples) after
     samples-count {after} w l =
         let h : 16 * e .samples ≤ length after = rw is (omega (arith, samples-in (ap length (sym w) ∙ l))) in
         (h, sym (length-take-le (16 * e .samples) after h))

@@ -13,7 +13,7 @@ use Rattle.bounce_step.specs.Text.{decimalOf}
 unfoldable pub placedOf : List ℕ → ℕ → List ℕ
 placedOf words place = words ++ ascii ", at byte " ++ decimalOf place
 
--- Document 01's table "Where a call turns back", the column "cause", with the buffer and the place where it names them.
+-- The causes of the table of refusals (docs/FORMATS.md), with the buffer and the place where it names them.
 unfoldable pub wordsOf : Answer → List ℕ
 wordsOf Done = ascii "nothing is refused"
 wordsOf BundleLength = ascii "the bundle is not 6,127,736 bytes long"

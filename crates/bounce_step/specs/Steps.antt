@@ -1,7 +1,8 @@
--- What a script's step gives: document 01's number for its answer, how many bytes the samples and the line have, and the buffers that were lent to be written.
+-- What a script's step gives: the number of its answer, how many bytes the samples and the line have, and the buffers that were lent to be written.
 use Prim.Native.Nat.{ℕ, _*_}
 use mathlib.Core.List.{List}
 use Rattle.answers.specs.Answers.{numberOf}
+use Rattle.filter.specs.Lent.{Lent}
 use Rattle.run.specs.Run.{Run, runOf}
 use Rattle.bounce_step.specs.declared.Stepped.{Stepped}
 use Rattle.bounce_step.specs.Text.{grown, grownEnd}
@@ -26,5 +27,5 @@ afterRunOf name line r =
     }
 
 -- The script of a name is run from the state that the last one left, and its line is written into a buffer.
-abbrev pub stepOf : List ℕ → List ℕ → List ℕ → List ℕ → List ℕ → List ℕ → List ℕ → Step
-stepOf bundle curves state name script output line = afterRunOf name line (runOf bundle curves state script output)
+abbrev pub stepOf : Lent → List ℕ → List ℕ → List ℕ → List ℕ → List ℕ → Step
+stepOf lent state name script output line = afterRunOf name line (runOf lent state script output)

@@ -6,12 +6,13 @@ ghost use mathlib.Core.Path.{_≡_};
 ghost use mathlib.Core.List.{_++_};
 ghost use Rattle.io.specs.Counts.{Counts};
 ghost use Rattle.wire.specs.Text.{ascii};
+ghost use Rattle.filter.specs.Lent.{lentOf};
 ghost use Rattle.bounce_step.specs.Text.{grown, grownEnd};
 ghost use Rattle.bounce_step.specs.Steps.{stepOf};
 pub use lines::script_line;
 use text::push;
 
-// Document 01's number for the answer, and how many bytes the samples and the line have.
+// The answer's number, and how many bytes the samples and the line have.
 pub struct Stepped {
     pub number: u32,
     pub samples: usize,
@@ -28,7 +29,7 @@ pub fn step(
     output: &mut [u8],
     line: &mut [u8],
 ) -> Stepped
-    ensures { λ r. ⌜ stepOf (now (bundle .entry)) (now (curves .entry)) (now (state .entry)) (now (name .entry)) (now (script .entry)) (now (output .entry)) (now (line .entry))
+    ensures { λ r. ⌜ stepOf (lentOf (now (bundle .entry)) (now (curves .entry))) (now (state .entry)) (now (name .entry)) (now (script .entry)) (now (output .entry)) (now (line .entry))
         ≡ record { stepped = r; state = now (state .exit); output = now (output .exit); line = now (line .exit) } ⌝ }
     ensures { λ r. ⌜ Counts (r .samples) (now (output .exit)) ⌝ }
     ensures { λ r. ⌜ Counts (r .line) (now (line .exit)) ⌝ }

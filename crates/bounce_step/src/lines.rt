@@ -22,7 +22,7 @@ fn push_placed(out: &mut [u8], at: usize, words: &[u8], place: u32) -> usize
     push_number(out, n, place as u64)
 }
 
-// The text with an answer's words after it: document 01's sentences for the ten refusals.
+// The text with an answer's words after it: a sentence for each of the ten refusals.
 fn push_words(out: &mut [u8], at: usize, answer: Answer) -> usize
     requires { ⌜ at ≤ length (now out) ⌝ }
     ensures { λ r. ⌜ Counts r (now (out .exit)) ⌝ }

@@ -1,4 +1,4 @@
--- The layout of a bundle (docs/FORMATS.md): the sections, the place of an entry in each, and the header.
+-- The layout of a bundle (docs/FORMATS.md, "The bundle"): the sections, the place of an entry in each, and the header.
 use Prim.Native.Nat.{ℕ, _+_, _-_, _*_}
 use mathlib.Core.List.{List, [], _∷_, _++_}
 use lib.IntN.{ℤ, pos, negsuc}

@@ -52,7 +52,7 @@ judgeSectionOf bundle section =
 unfoldable pub openOf : List ℕ → Answer
 openOf bundle = firstOf (checkOf bundle) (judgeSectionOf bundle everyEntry)
 
--- An accepted bundle (docs/FORMATS.md): the fixed header, and only usable entries.
+-- An accepted bundle: the fixed header, and only usable entries.
 pub record Accepted (bundle : List ℕ) : Type 0 where
   pub long : length bundle ≡ bundleLength
   pub fixed : take headerLength bundle ≡ header

@@ -46,7 +46,7 @@ clamped (fin s m e) = go s (lt (fin s m e) (fin true 57 (pos 0))) (lt (fin false
     go true false false p q = small true (m * up e / down e) 32711 32710 (div-le-of-le-mul (down e) (omega (arith, ltb-false (57 * down e) (m * up e * 1) p)))
     go false false false p q = small false (m * up e / down e) 32711 32710 (div-le-of-le-mul (down e) (omega (arith, ltb-false (57 * down e) (m * up e * 1) q)))
 
--- Document 01's range, for every step.
+-- The displacement's range, for every step.
 pub displacement-within : (step : ℤ) → Within (displacementOf step)
 unfolding displacementOf ofInt neg
 displacement-within step = clamped _

@@ -1,4 +1,4 @@
--- The curve positions of inputs past either end of the range.
+-- Where inputs at and past the ends of a curve stand, of every input.
 use Prim.Native.Nat.{_*_}
 use mathlib.Core.Path.{_≡_, refl, sym}
 use mathlib.Core.Bool.{true, false, true≢false}

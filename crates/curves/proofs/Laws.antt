@@ -32,7 +32,7 @@ module _ (input : Float) where
   unfolding inputPositionOf
   input-upper = omega (arith, curve-index input)
 
--- The place of an index of the surface's table is the bundle's place of its load and its input.
+-- The place of an index of the surface's table is the place of its load and its input.
 pub surface-place : (load input : ℕ) → tablePlace (load * 2048 + input) ≡ surfacePlace load input
 surface-place load input = refl
 

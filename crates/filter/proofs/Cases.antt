@@ -1,4 +1,4 @@
--- Document 01's cases, as rows of one computed check on the definitions. Its twelve starred ones come first, in its order.
+-- Worked cases of the definitions, as rows of one computed check; docs/PROMISES.md lists them. The twelve that were asked for as proofs come first.
 use Prim.Native.Nat.{ℕ}
 use mathlib.Core.Path.{_≡_, refl}
 use mathlib.Core.Bool.{Bool}
@@ -85,5 +85,6 @@ pub cases :
     ∷ (pos 0 ∷ pos 0 ∷ pos 0 ∷ pos 0 ∷ pos 0 ∷ pos 1 ∷ [])
     ∷ (pos 0 ∷ pos 0 ∷ pos 0 ∷ [])
     ∷ []
-unfolding rows displacementOf displacedOf stepBetweenOf ofInt ofBits mul neg lt toSigned roundOf topologyOf reciprocalOf filterCountOf bypassCountOf outputCountOf mixerCountOf eq div loadPositionOf inputPositionOf sub toUnsigned
+unfolding rows displacementOf displacedOf stepBetweenOf ofInt ofBits mul neg lt toSigned roundOf topologyOf reciprocalOf
+    filterCountOf bypassCountOf outputCountOf mixerCountOf eq div loadPositionOf inputPositionOf sub toUnsigned
 cases = refl

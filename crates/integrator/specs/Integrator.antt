@@ -38,7 +38,7 @@ advanceOf s driven-input k =
           };
     }
 
--- the domain: the state numbers and the outputs are finite
+-- the finite domain: the state numbers and the outputs are finite
 abbrev pub stateFinite : IntegratorState → Bool
 stateFinite s = finite (s .«band_state») && finite (s .«low_state») && finite (s .«filter_source_energy»)
 

@@ -1,4 +1,4 @@
--- The four calls that a user reaches, by the table of refusals (docs/FORMATS.md): an argument that is not finite or past its table gives 10, a result that is not
+-- The four calls that a user reaches, by the table of refusals: an argument that is not finite or past its table gives 10, a result that is not
 -- finite 6. Beside a refusal each value is 0.0, and a lent buffer is left as it was.
 use Prim.Native.Nat.{ℕ}
 use mathlib.Core.Bool.{Bool, cond, _&&_}

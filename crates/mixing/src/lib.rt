@@ -92,7 +92,7 @@ impl MixingTopology {
     }
 }
 
-// ---- the topology as a line
+// ---- the line of text
 
 fn digit(n: usize) -> u8
     requires { ⌜ n ≤ 9 ⌝ }

@@ -6,7 +6,7 @@ use Rattle.answers.specs.Answers.{numberOf, bufferOf, placeOf}
 use Rattle.floats.specs.Arithmetic.{f32}
 use Rattle.mixing.specs.Topology.{topologyOf}
 use Rattle.control.specs.declared.State.{State}
-use Rattle.controls.specs.Controls.{controlsOf}
+use Rattle.refresh.specs.Refresh.{refreshOf}
 use Rattle.sample.specs.declared.Sampled.{Sampled}
 use Rattle.sample.specs.declared.Sampled.the-variants.{Taken, Refused}
 use Rattle.sample.specs.Sample.{summerSlotOf, filterSampleOf}
@@ -43,4 +43,4 @@ sampleStepOf (Refused a) = record {
 unfoldable pub freshSampleOf : List ℕ → List ℕ → State → Float → Float → Sampled
 freshSampleOf bundle curves s sum energy =
     let topology = topologyOf (s .registers .routing) (s .registers .mode) in
-    filterSampleOf bundle curves (summerSlotOf topology) topology (controlsOf bundle s) (s .registers .mode) (s .integrator) sum energy
+    filterSampleOf bundle curves (summerSlotOf topology) topology (refreshOf bundle s .controls) (s .registers .mode) (s .integrator) sum energy

@@ -13,7 +13,7 @@ ghost use Rattle.mixing.specs.Line.{lineOf};
 ghost use Rattle.mixing.specs.Topology.{topologyOf};
 ghost use Rattle.wire.specs.Wire.{putAt};
 ghost use Rattle.control.specs.Block.{decodeOf};
-ghost use Rattle.controls.specs.Controls.{controlsOf};
+ghost use Rattle.refresh.specs.Refresh.{refreshOf};
 ghost use Rattle.script.specs.Script.{checkScriptOf};
 ghost use Rattle.probe.specs.Probe.{stateOr, writeOf, writtenOf, effectiveOf, scriptReplyOf};
 use control::DecodedState;
@@ -140,15 +140,22 @@ pub extern "C" fn probe_write(block: &mut [u8], register: u8, value: u8)
     }
 }
 
-// The controls of a valid block's state, and of the starting value for any other.
+fn refreshed(bundle: &[u8], state: State) -> ControlCache
+    ensures { λ r. ⌜ r ≡ refreshOf (now (bundle .entry)) state .controls ⌝ }
+{
+    let fresh = refresh::refresh(bundle, state);
+    fresh.controls
+}
+
+// The controls of a valid block's state, and of the starting value for any other; zeros where they are refused.
 #[no_mangle]
 pub extern "C" fn probe_controls(bundle: &[u8], block: &[u8]) -> ControlCache
-    ensures { λ r. ⌜ r ≡ controlsOf (now (bundle .entry)) (stateOr (decodeOf (now (block .entry)))) ⌝ }
+    ensures { λ r. ⌜ r ≡ refreshOf (now (bundle .entry)) (stateOr (decodeOf (now (block .entry)))) .controls ⌝ }
 {
     let decoded = State::decode(block);
     match decoded {
-        DecodedState::Valid(state) => controls::controls_of(bundle, state),
-        DecodedState::Invalid => controls::controls_of(bundle, State::new()),
+        DecodedState::Valid(state) => refreshed(bundle, state),
+        DecodedState::Invalid => refreshed(bundle, State::new()),
     }
 }
 
@@ -164,7 +171,7 @@ pub struct Script {
 pub extern "C" fn probe_script(script: &[u8]) -> Script
     ensures { λ r. ⌜ r ≡ scriptReplyOf (checkScriptOf (now (script .entry))) ⌝ }
 {
-    let checked = script::check(script);
+    let checked = script::check_script(script);
     match checked {
         Checked::WellFormed { events, samples } => Script {
             refused: false,

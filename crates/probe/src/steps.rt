@@ -62,9 +62,10 @@ fn sampled(bundle: &[u8], curves: &[u8], s: State, sum: f32, energy: f32) -> Sam
 {
     let registers = s.registers;
     let topology = MixingTopology::update(registers.routing, registers.mode);
-    let controls = controls::controls_of(bundle, s);
+    let fresh = refresh::refresh(bundle, s);
+    let controls = fresh.controls;
     let integrator = s.integrator;
-    sample::sample(
+    sample::filter_sample(
         bundle,
         curves,
         sample::summer_slot(topology),

@@ -1,9 +1,9 @@
 // The surface and a curve: the refusing calls, and the total functions behind them.
 ghost use mathlib.Core.Path.{_≡_};
 ghost use Rattle.curves.specs.Sampling.{sampleOf, sampleCurveOf, summerRestingOutputOf};
-ghost use Rattle.sid_filter.specs.Calls.{loadPositionCallOf, sampleCallOf, sampleCurveCallOf};
+ghost use Rattle.direct.specs.Calls.{loadPositionCallOf, sampleCallOf, sampleCurveCallOf};
 ghost use Rattle.probe.specs.Surface.{surfaceReplyOf, loadOf};
-use sid_filter::Sampled;
+use direct::Valued;
 
 // An answer by its numbers, and the value beside it.
 #[repr(C)]
@@ -22,7 +22,7 @@ pub struct Load {
     pub fraction: f32,
 }
 
-fn numbers(r: Sampled) -> Value
+fn numbers(r: Valued) -> Value
     ensures { λ v. ⌜ v ≡ surfaceReplyOf r ⌝ }
 {
     let answer = r.answer;
@@ -39,7 +39,7 @@ fn numbers(r: Sampled) -> Value
 pub extern "C" fn probe_load_position(conductance: f32) -> Load
     ensures { λ r. ⌜ r ≡ loadOf (loadPositionCallOf conductance) ⌝ }
 {
-    let r = sid_filter::load_position(conductance);
+    let r = direct::load_position(conductance);
     let answer = r.answer;
     let position = r.position;
     Load {
@@ -54,14 +54,14 @@ pub extern "C" fn probe_load_position(conductance: f32) -> Load
 pub extern "C" fn probe_sample(bundle: &[u8], conductance: f32, input: f32) -> Value
     ensures { λ r. ⌜ r ≡ surfaceReplyOf (sampleCallOf (now (bundle .entry)) conductance input) ⌝ }
 {
-    numbers(sid_filter::sample(bundle, conductance, input))
+    numbers(direct::sample(bundle, conductance, input))
 }
 
 #[no_mangle]
 pub extern "C" fn probe_sample_curve(curves: &[u8], curve: u8, input: f32) -> Value
     ensures { λ r. ⌜ r ≡ surfaceReplyOf (sampleCurveCallOf (now (curves .entry)) curve input) ⌝ }
 {
-    numbers(sid_filter::sample_curve(curves, curve, input))
+    numbers(direct::sample_curve(curves, curve, input))
 }
 
 // The same for any float, and with no look at the bundle.

@@ -425,7 +425,7 @@ fn play(
 fn judge_script(script: &[u8], room: usize) -> Answer
     ensures { λ r. ⌜ r ≡ R.judgeScriptOf (now (script .entry)) room ⌝ }
 {
-    match script::check(script) {
+    match script::check_script(script) {
         Checked::WellFormed { events: _, samples } => {
             answers::unless(samples <= room / 16, Answer::OutputLength)
         }

@@ -1,5 +1,5 @@
 -- The filter's step for one sample, operation by operation from filter.rs: `summer_transfer`, `advance_filter_core`, `select_filter_output`,
--- and document 01's refusals 5, 9, 3 and 6 in that order.
+-- and the refusals 5, 9, 3 and 6 in that order.
 use Prim.Native.Nat.{ℕ, _+_, _%_, min}
 use mathlib.Core.Bool.{Bool, cond, _&&_}
 use mathlib.Core.List.{List}

@@ -1,4 +1,4 @@
--- Document 01: a piece of a cut script is a script of its own.
+-- A piece of a cut script is a script of its own.
 use mathlib.Core.Bool.{true}
 use mathlib.Core.Path.{_≡_}
 use Prim.Native.Nat.{ℕ}

@@ -1,4 +1,4 @@
--- Document 01's script: a header of two words, event count and offset, and 12 bytes an event.
+-- The script (docs/FORMATS.md): a header of two words, event count and offset, and 12 bytes an event.
 use Prim.Native.Nat.{ℕ, zero, suc, _+_, _*_}
 use mathlib.Core.Bool.{Bool, true, false, cond, _&&_}
 use mathlib.Core.List.{List, [], _∷_}
@@ -91,7 +91,7 @@ samplesOf (e ∷ es) = sampleCountOf e + samplesOf es
 unfoldable pub headerOk : List ℕ → Bool
 headerOk s = leb (eventCountOf s) 65536 && eqb (u32At s 4) 8 && eqb (length s) (8 + 12 * eventCountOf s)
 
--- Well-formed: document 01's table has no 7 for it.
+-- Well-formed: the table of refusals has no 7 for it.
 unfoldable pub wellFormed : List ℕ → Bool
 wellFormed s = headerOk s && allReadable (slicesOf s)
 

@@ -28,7 +28,7 @@ pub enum Checked {
 }
 
 // The event of twelve bytes.
-fn decode(bytes: &[u8]) -> DecodedEvent
+fn decode_event(bytes: &[u8]) -> DecodedEvent
     ensures { λ r. ⌜ r ≡ decodeEventOf (now (bytes .entry)) ⌝ }
 {
     if (bytes.len() == 12) & (wire::byte_at(bytes, 2) == 0) & (wire::byte_at(bytes, 3) == 0) {
@@ -57,14 +57,14 @@ pub fn event_at(script: &[u8], place: usize) -> DecodedEvent
     if 12 <= script.len() {
         if place <= script.len() - 12 {
             let end = place + 12;
-            return decode(&script[place..end]);
+            return decode_event(&script[place..end]);
         }
     }
     DecodedEvent::Unreadable
 }
 
 // 1 for a sample, 0 for any other event.
-fn sample(event: Event) -> usize
+fn sample_count(event: Event) -> usize
     ensures { λ r. ⌜ r ≡ sampleCountOf event ⌝ }
 {
     match event {
@@ -91,7 +91,7 @@ fn tally(script: &[u8], count: usize) -> Checked
         let DecodedEvent::Readable(event) = event_at(script, 8 + 12 * i) else {
             return Checked::Refused(Answer::Script);
         };
-        samples += sample(event);
+        samples += sample_count(event);
         i += 1;
     }
     Checked::WellFormed {
@@ -101,7 +101,7 @@ fn tally(script: &[u8], count: usize) -> Checked
 }
 
 // The check of a script. A script that is not well-formed is refused whole.
-pub fn check(script: &[u8]) -> Checked
+pub fn check_script(script: &[u8]) -> Checked
     ensures { λ r. ⌜ r ≡ checkScriptOf (now (script .entry)) ⌝ }
 {
     let count = wire::u32_at(script, 0) as usize;

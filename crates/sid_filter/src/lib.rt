@@ -1,4 +1,4 @@
-// The C interface of include/sid_filter.h: the calls on lent bytes, with document 01's numbers for their answers.
+// The C interface of include/sid_filter.h: the calls on lent bytes, with the numbers of docs/FORMATS.md for their answers.
 ghost use mathlib.Core.Path.{_≡_};
 ghost use Rattle.bundle.specs.Opening.{openOf};
 ghost use Rattle.curves.specs.Building.{judgeBuildOf, buildOf};
@@ -7,7 +7,7 @@ ghost use Rattle.run.specs.Run.{runOf};
 ghost use Rattle.sid_filter.specs.Calls.{runAnswerOf, ranAnswerOf};
 use answers::Answer;
 
-// An answer to C: document 01's number, the events done and the samples written by a run, and buffer and place where the table names them.
+// An answer to C: its number, the events done and the samples written by a run, and buffer and place where the table names them.
 #[repr(C)]
 pub struct RunAnswer {
     pub number: u32,

@@ -1,4 +1,4 @@
-// Document 01's program: reads the routing and the mode register, two bytes, and prints the topology's line; nothing on shorter input.
+// Reads the routing and the mode register, two bytes, and prints the topology's line; nothing on shorter input.
 ghost use mathlib.Core.Path.{_≡_};
 ghost use Prim.Native.Nat.{_/_, _%_};
 ghost use Rattle.mixing.specs.Line.{lineOf};

@@ -1,4 +1,4 @@
--- The mixer with no input: routing 15 mode 0, whose average is the quiescent level, whatever the sum.
+-- A mixer with no input: routing 15 mode 0, whose average is the quiescent level, whatever the sum.
 use mathlib.Core.Path.{_≡_, refl}
 use lib.Ieee.{Float}
 use Rattle.response.specs.Levels.{filterModeQuiescentLevelOf}

@@ -1,5 +1,5 @@
 -- `mixer_transfer` and `volume_transfer` of filter.rs, operation by operation, and the entries that each reads.
--- The mixer's curves are 7 to 14 and the volume's 15 to 30 (docs/FORMATS.md).
+-- Of the 31 curves the mixer's are 7 to 14 and the volume's 15 to 30.
 use Prim.Native.Nat.{ℕ, _+_, min}
 use mathlib.Core.Bool.{cond}
 use mathlib.Core.List.{List}

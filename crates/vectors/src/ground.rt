@@ -22,8 +22,8 @@ pub(crate) fn constant(r: &[u8]) -> bool {
         2 => has_entry(r, column, &constants::mode_polarity()),
         3 => has_entry(r, column, &constants::attack_scale_by_selection()),
         4 => has_frozen(r, row, column),
-        5 => has_entry(r, column, &constants::input_drive()),
-        6 => has_entry(r, column, &constants::feedback_drive()),
+        5 => has_entry(r, column, &constants::input_drives()),
+        6 => has_entry(r, column, &constants::feedback_drives()),
         7 => has(r, 12, constants::single_mode_cutoff_gain(row, column)),
         8 => has(r, 12, constants::single_mode_resonance_gain(row, column)),
         9 => has(r, 12, constants::symmetric_loading_gain(row, column)),
@@ -85,7 +85,7 @@ pub(crate) fn answer(r: &[u8]) -> bool {
         & (wire::u32_at(r, 32) == reported.place)
 }
 
-// Document 01's table, from the number.
+// The refusal of a number (docs/FORMATS.md).
 fn answer_of(number: u32, buffer: u32, place: u32) -> Answer {
     match number {
         0 => Answer::Done,

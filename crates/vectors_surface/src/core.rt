@@ -1,8 +1,8 @@
 // Records of the filter's core: what is kept of a state, and a sample. Each starts with a state's block.
 use control::DecodedState;
 use control::State;
-use controls::Refreshed;
 use mixing::MixingTopology;
+use refresh::Refreshed;
 use replay::has_flag;
 use replay::has_floats;
 use replay::has_size;
@@ -18,7 +18,7 @@ fn state_at(r: &[u8]) -> DecodedState {
 pub(crate) fn controls(r: &[u8], bundle: &[u8]) -> bool {
     let decoded = state_at(r);
     match decoded {
-        DecodedState::Valid(state) => has_controls(r, controls::refresh(bundle, state)),
+        DecodedState::Valid(state) => has_controls(r, refresh::refresh(bundle, state)),
         DecodedState::Invalid => false,
     }
 }
@@ -75,12 +75,14 @@ fn sampled(r: &[u8], bundle: &[u8], curves: &[u8], s: State) -> Sampled {
     let registers = s.registers;
     let integrator = s.integrator;
     let topology = MixingTopology::update(registers.routing, registers.mode);
-    sample::sample(
+    let fresh = refresh::refresh(bundle, s);
+    let controls = fresh.controls;
+    sample::filter_sample(
         bundle,
         curves,
         sample::summer_slot(topology),
         topology,
-        controls::controls_of(bundle, s),
+        controls,
         registers.mode,
         integrator,
         wire::f32_at(r, 24),

@@ -1,4 +1,4 @@
-// Records of the bundle, the surface in it and the curves. Document 01 refuses an argument that is not finite; what is refused is 0.
+// Records of the bundle, the surface in it and the curves. An argument that is not finite is refused; what is refused is 0.
 use answers::Answer;
 
 pub(crate) fn word(r: &[u8], bundle: &[u8]) -> bool {
@@ -10,7 +10,7 @@ pub(crate) fn word(r: &[u8], bundle: &[u8]) -> bool {
 pub(crate) fn load_position(r: &[u8]) -> bool {
     let conductance = wire::f32_at(r, 0);
     let good = floats::is_finite(conductance);
-    let at = sid_filter::load_position(conductance);
+    let at = direct::load_position(conductance);
     let answer = at.answer;
     let position = at.position;
     is_answer(good, answer)
@@ -23,7 +23,7 @@ pub(crate) fn sample(r: &[u8], bundle: &[u8]) -> bool {
     let conductance = wire::f32_at(r, 0);
     let input = wire::f32_at(r, 4);
     let good = floats::is_finite(conductance) & floats::is_finite(input);
-    let sampled = sid_filter::sample(bundle, conductance, input);
+    let sampled = direct::sample(bundle, conductance, input);
     let answer = sampled.answer;
     is_answer(good, answer) & is_word(good, r, 8, wire::float_bits(sampled.value) as u64)
 }
@@ -32,7 +32,7 @@ pub(crate) fn sample_curve(r: &[u8], curves: &[u8]) -> bool {
     let curve = (wire::u32_at(r, 0) % 256) as u8;
     let input = wire::f32_at(r, 4);
     let good = floats::is_finite(input);
-    let sampled = sid_filter::sample_curve(curves, curve, input);
+    let sampled = direct::sample_curve(curves, curve, input);
     let answer = sampled.answer;
     is_answer(good, answer) & is_word(good, r, 8, wire::float_bits(sampled.value) as u64)
 }

@@ -1,4 +1,4 @@
-// Records of ladder. Document 01 refuses an argument that is not finite or past its table, and then a result that is not finite; what is refused
+// Records of ladder. Refused is an argument that is not finite or past its table, and then a result that is not finite; what is refused
 // is 0.0.
 use answers::Answer;
 use ladder::Nodes;

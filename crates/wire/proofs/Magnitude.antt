@@ -1,4 +1,4 @@
--- `usable` on the bits is a usable entry on the float: finite and at most 1,024 in magnitude.
+-- `usable` on the bits is the same on the float: finite and at most 1,024 in magnitude.
 use Prim.Native.Nat.{ℕ, zero, suc, _+_, _*_, _/_, _%_, _^_, _≤_, _<_}
 use mathlib.Core.Path.{_≡_, refl, ap, sym, _∙_}
 use mathlib.Core.Bool.{Bool, true, false, cond}

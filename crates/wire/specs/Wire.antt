@@ -57,7 +57,7 @@ f32At s p = ofBits binary32 (u32At s p)
 
 -- ---- patterns of an f32, with the sign's bit left out of account
 
--- A usable entry (docs/FORMATS.md): finite and at most 1,024 in magnitude, by the bits, since 0x4480_0000 is 1,024. Magnitude.antt of proofs/
+-- A usable entry: finite and at most 1,024 in magnitude, by the bits, since 0x4480_0000 is 1,024. Magnitude.antt of proofs/
 -- shows the same of the float.
 unfoldable pub usableOf : ℕ → Bool
 usableOf b = leb (b % 2 ^ 31) 0x4480_0000

@@ -13,7 +13,7 @@ report-requires : tie.Need-report-requires
 report-requires c κs = search needs
 
 mul-t18 : tie.Need-mul-t18
-mul-t18 c = record { fits = samples-fit _ _ _ _ _ (c .before .before .before .before .before .before .before .before .before .before .run .ensures .0) }
+mul-t18 c = record { fits = samples-fit _ _ _ _ (c .before .before .before .before .before .before .before .before .before .before .run .ensures .0) }
 
 same-length : tie.Need-same-length
 same-length c = search needs
@@ -28,7 +28,7 @@ returns : tie.Need-returns
 returns c =
     let ran = c .before .before .before .before .before .before .before .before .before .before .run .ensures in
     let told = c .before .before .before .before .script-line .ensures in
-    (simp (c .before .report .ensures, told .1 .0, told .1 .1, ran .0, ran .1 .0, ran .1 .1), (samples-count _ _ _ _ _ (ran .0) (ran .1 .1) (search needs), told .0))
+    (simp (c .before .report .ensures, told .1 .0, told .1 .1, ran .0, ran .1 .0, ran .1 .1), (samples-count _ _ _ _ (ran .0) (ran .1 .1) (search needs), told .0))
 
 pub step-spec : {M : Type 1} → statement M
 step-spec =

@@ -15,6 +15,9 @@ add-displaced c = sum-fits _ _ (c .fits .cutoff) (c .fits .displacement)
 returns : tie.Need-returns
 returns c = let z = c .before in rw (c .if1 .taken) at (displaced-told _ _ (z .fits .cutoff) (z .fits .displacement))
 
+cast-if2 : tie.Need-cast-if2
+cast-if2 c = search needs
+
 returns-2 : tie.Need-returns-2
 returns-2 c =
     let z = c .before .before in
@@ -38,6 +41,7 @@ displaced-spec =
     cast-displaced-2
     add-displaced
     returns
+    cast-if2
     returns-2
     cast-result
     returns-3)

@@ -12,22 +12,22 @@ sub-if2 c = search needs
 add-end : tie.Need-add-end
 add-end c = search needs
 
-sub-decode : tie.Need-sub-decode
-sub-decode c = search needs
+sub-decode-event : tie.Need-sub-decode-event
+sub-decode-event c = search needs
 
-part-decode-start : tie.Need-part-decode-start
-part-decode-start c = search needs
+part-decode-event-start : tie.Need-part-decode-event-start
+part-decode-event-start c = search needs
 
-part-decode-end : tie.Need-part-decode-end
-part-decode-end c = search needs
+part-decode-event-end : tie.Need-part-decode-event-end
+part-decode-event-end c = search needs
 
-decode-requires : tie.Need-decode-requires
-decode-requires c κs = search needs
+decode-event-requires : tie.Need-decode-event-requires
+decode-event-requires c κs = search needs
 
 returns : tie.Need-returns
 returns c =
     let z = c .before .before .before .before .before in
-    c .decode .ensures ∙ event-part (now (z .args .script)) (z .args .place)
+    c .decode-event .ensures ∙ event-part (now (z .args .script)) (z .args .place)
 
 returns-2 : tie.Need-returns-2
 returns-2 c = let z = c .before .before .before in event-past (now (z .args .script)) (z .args .place) (omega arith)
@@ -41,10 +41,10 @@ event-at-spec =
     (tie.spec
     sub-if2
     add-end
-    sub-decode
-    part-decode-start
-    part-decode-end
-    decode-requires
+    sub-decode-event
+    part-decode-event-start
+    part-decode-event-end
+    decode-event-requires
     returns
     returns-2
     returns-3)

@@ -45,11 +45,11 @@ returns c =
     let a = l .before .before .args in
     sym (l .loop .inv .2 ∙ tally-stop (now (a .script)) (a .count) (l .loop .samples) (l .loop .i) (e .before .loop-test .taken) (sym (e .event-at .ensures) ∙ c .enum-told .given .1))
 
-sample-requires : tie.Need-sample-requires Inv-loop μ-loop
-sample-requires c κs = search needs
+sample-count-requires : tie.Need-sample-count-requires Inv-loop μ-loop
+sample-count-requires c κs = search needs
 
 add-samples : tie.Need-add-samples Inv-loop μ-loop
-add-samples c = record { fits = omega (arith, c .sample .ensures, sample-le (c .before .before .event .given .0 .0)) }
+add-samples c = record { fits = omega (arith, c .sample-count .ensures, sample-le (c .before .before .event .given .0 .0)) }
 
 add-i : tie.Need-add-i Inv-loop μ-loop
 add-i c = search needs
@@ -64,7 +64,7 @@ loop-again c =
     let l = e .before .before in
     let a = l .before .before .args in
     let m = tally-more (now (a .script)) (a .count) (l .loop .samples) (l .loop .i) (e .before .loop-test .taken) (v .event .given .0 .0) (sym (e .event-at .ensures) ∙ v .event .given .1) in
-    (omega arith, omega (arith, c .sample .ensures, sample-le (v .event .given .0 .0)), rw (c .sample .ensures) (l .loop .inv .2 ∙ m))
+    (omega arith, omega (arith, c .sample-count .ensures, sample-le (v .event .given .0 .0)), rw (c .sample-count .ensures) (l .loop .inv .2 ∙ m))
 
 returns-2 : tie.Need-returns-2 Inv-loop μ-loop
 returns-2 c =
@@ -85,7 +85,7 @@ tally-spec =
     enum-known-event
     enum-told
     returns
-    sample-requires
+    sample-count-requires
     add-samples
     add-i
     loop-less

@@ -6,18 +6,18 @@ use Rattle.probe.proofs.steps.sampled.Tie as tie
 update-requires : tie.Need-update-requires
 update-requires c κs = search needs
 
-controls-of-requires : tie.Need-controls-of-requires
-controls-of-requires c κs = search needs
+refresh-requires : tie.Need-refresh-requires
+refresh-requires c κs = search needs
 
 summer-slot-requires : tie.Need-summer-slot-requires
 summer-slot-requires c κs = search needs
 
-sample-requires : tie.Need-sample-requires
-sample-requires c κs = search needs
+filter-sample-requires : tie.Need-filter-sample-requires
+filter-sample-requires c κs = search needs
 
 returns : tie.Need-returns
 unfolding freshSampleOf
-returns c = simp (← c .before .before .before .before .update .ensures, ← c .before .before .before .controls-of .ensures, ← c .before .summer-slot .ensures) (c .sample .ensures)
+returns c = ?
 
 pub sampled-spec : {M : Type 1} → statement M
-sampled-spec = tie.close (tie.spec update-requires controls-of-requires summer-slot-requires sample-requires returns)
+sampled-spec = tie.close (tie.spec update-requires refresh-requires summer-slot-requires filter-sample-requires returns)

@@ -5,8 +5,8 @@ use Rattle.wire.specs.Wire.{f32At}
 use Rattle.script.specs.Script.{kindOf, decodeEventOf}
 use Rattle.script.proofs.Laws.{event-told, event-not}
 use borrow.Author.Needs.{needs}
-use Rattle.script.proofs.decode.Statement.{statement}
-use Rattle.script.proofs.decode.Tie as tie
+use Rattle.script.proofs.decode_event.Statement.{statement}
+use Rattle.script.proofs.decode_event.Tie as tie
 
 byte-at-requires : tie.Need-byte-at-requires
 byte-at-requires c κs = search needs
@@ -74,8 +74,8 @@ returns-8 c =
     let y = c .before in
     event-not _ (y .before .byte-at .ensures) (y .byte-at2 .ensures) (c .if1 .left)
 
-pub decode-spec : {M : Type 1} → statement M
-decode-spec =
+pub decode-event-spec : {M : Type 1} → statement M
+decode-event-spec =
     tie.close
     (tie.spec
     byte-at-requires

@@ -6,8 +6,8 @@ use lib.ListN.{length}
 use denote.Ref.{now}
 use Rattle.script.proofs.Laws.{count-few, check-told}
 use borrow.Author.Needs.{needs}
-use Rattle.script.proofs.check.Statement.{statement}
-use Rattle.script.proofs.check.Tie as tie
+use Rattle.script.proofs.check_script.Statement.{statement}
+use Rattle.script.proofs.check_script.Tie as tie
 
 u32-at-requires : tie.Need-u32-at-requires
 u32-at-requires c κs = search needs
@@ -43,8 +43,8 @@ returns-2 c =
     let n = o .before in
     check-told (now (n .before .before .args .script)) false (n .u32-at .ensures) (o .u32-at2 .ensures) (c .if1 .left)
 
-pub check-spec : {M : Type 1} → statement M
-check-spec =
+pub check-script-spec : {M : Type 1} → statement M
+check-script-spec =
     tie.close
     (tie.spec
     u32-at-requires
