@@ -74,11 +74,21 @@ surfacePlace load input = entryPlace analogueSurface (load * 2048 + input)
 abbrev pub highpassLoadingPlace : ℕ → ℕ
 highpassLoadingPlace cutoff = entryPlace highpassLoading cutoff
 
--- The displacement plus 57. One below -57, which no valid state has, counts as -57.
+-- A section over the written cutoff has 2,048 of them, each with the 115 displacements from -57 to 57.
+abbrev pub cutoffs : ℕ
+cutoffs = 2048
+
+abbrev pub displacements : ℕ
+displacements = 115
+
+abbrev pub displacementLimit : ℕ
+displacementLimit = 57
+
+-- The displacement plus its limit. One below the lowest, which no valid state has, counts as the lowest.
 abbrev pub displacementIndexOf : ℤ → ℕ
-displacementIndexOf (pos n) = n + 57
-displacementIndexOf (negsuc n) = 57 - (n + 1)
+displacementIndexOf (pos n) = n + displacementLimit
+displacementIndexOf (negsuc n) = displacementLimit - (n + 1)
 
 -- Mode 0 is low, 1 band, 2 high; the cutoff is the written one.
 abbrev pub directionalPowerPlace : ℕ → ℕ → ℤ → ℕ
-directionalPowerPlace mode cutoff displacement = entryPlace directionalPower ((mode * 2048 + cutoff) * 115 + displacementIndexOf displacement)
+directionalPowerPlace mode cutoff displacement = entryPlace directionalPower ((mode * cutoffs + cutoff) * displacements + displacementIndexOf displacement)

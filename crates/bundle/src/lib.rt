@@ -43,6 +43,15 @@ const DIRECTIONAL_POWER_OFFSET: u32 = 3_301_496;
 
 const DIRECTIONAL_POWER_COUNT: u32 = 706_560;
 
+// The written cutoffs, their displacements from the lowest on, the 16 bits of that one, and the limit of a displacement in codes.
+const CUTOFFS: u32 = 2_048;
+
+const DISPLACEMENTS: u32 = 115;
+
+const LOWEST_DISPLACEMENT: u32 = 0xffc7;
+
+const DISPLACEMENT_LIMIT: u32 = 57;
+
 // The header's words: the total length and the section count, then the byte offset and the entry count of each section.
 const HEADER: [u32; 14] = [
     BYTES as u32,
@@ -91,18 +100,18 @@ pub fn highpass_loading_place(cutoff: u16) -> u32
     HIGHPASS_LOADING_OFFSET + 4 * (cutoff as u32)
 }
 
-// From the 16 bits of the displacement: -57 has 0xffc7.
+// A displacement's index among the entries of a cutoff, from its 16 bits.
 fn displacement_index(displacement: i16) -> u32
     ensures { λ r. ⌜ r ≡ displacementIndexOf displacement ⌝ }
 {
     let bits = wire::bits16(displacement) as u32;
     if bits < 0x8000 {
-        return bits + 57;
+        return bits + DISPLACEMENT_LIMIT;
     }
-    if bits < 0xffc7 {
+    if bits < LOWEST_DISPLACEMENT {
         return 0;
     }
-    bits - 0xffc7
+    bits - LOWEST_DISPLACEMENT
 }
 
 // The directional gain to the power of a displacement, for a mode (0 low, 1 band, 2 high) at a written cutoff.
@@ -110,7 +119,9 @@ pub fn directional_power_place(mode: u8, cutoff: u16, displacement: i16) -> u32
     ensures { λ r. ⌜ r ≡ directionalPowerPlace mode cutoff displacement ⌝ }
 {
     DIRECTIONAL_POWER_OFFSET
-        + 4 * (((mode as u32) * 2048 + (cutoff as u32)) * 115 + displacement_index(displacement))
+        + 4
+            * (((mode as u32) * CUTOFFS + (cutoff as u32)) * DISPLACEMENTS
+                + displacement_index(displacement))
 }
 
 // ---- entries
