@@ -59,7 +59,7 @@ pub mod proved {
         fn probe_sample_curve(curves: *const u8, len: usize, curve: u8, input: f32) -> Value;
         fn probe_any_sample(bundle: *const u8, len: usize, conductance: f32, input: f32) -> f32;
         fn probe_any_sample_curve(curves: *const u8, len: usize, curve: u8, input: f32) -> f32;
-        fn probe_summer_resting_output(bundle: *const u8, len: usize, count: usize) -> f32;
+        fn probe_summer_resting_output(bundle: *const u8, len: usize, count: u8) -> f32;
     }
 
     pub fn open(bundle: &[u8]) -> Answer {
@@ -93,7 +93,7 @@ pub mod proved {
         unsafe { probe_any_sample_curve(curves.as_ptr(), curves.len(), curve, input) }
     }
 
-    pub fn summer_resting_output(bundle: &[u8], count: usize) -> f32 {
+    pub fn summer_resting_output(bundle: &[u8], count: u8) -> f32 {
         unsafe { probe_summer_resting_output(bundle.as_ptr(), bundle.len(), count) }
     }
 }
@@ -263,7 +263,7 @@ fn sample_curve(bundle: &[u8], filter: &Filter) -> Tally {
 fn resting_output(bundle: &[u8], filter: &Filter) -> Tally {
     let mut tally = Tally::default();
     for (count, &theirs) in filter.curves().summer_resting_output.iter().enumerate() {
-        tally.same_float(proved::summer_resting_output(bundle, count), theirs);
+        tally.same_float(proved::summer_resting_output(bundle, count as u8), theirs);
     }
     tally
 }

@@ -1,6 +1,4 @@
 -- What the comparison asks of the core.
-use Prim.Native.Nat.{ℕ}
-use mathlib.Core.List.{List}
 use mir.Syntax.{w16}
 use mir.Val.{toZ, ofZ}
 use Rattle.answers.specs.declared.Answer.the-variants.{Script}
@@ -10,6 +8,7 @@ use Rattle.script.specs.declared.DecodedEvent.{DecodedEvent}
 use Rattle.script.specs.declared.DecodedEvent.the-variants.{Readable, Unreadable}
 use Rattle.filter.specs.declared.Core.{Core}
 use Rattle.filter.specs.declared.Fed.{Fed}
+use Rattle.filter.specs.Lent.{Lent}
 use Rattle.filter.specs.Core.{noOutputs, feedOf}
 use Rattle.probe.specs.declared.cores.Registers.{Registers}
 use Rattle.probe.specs.declared.cores.Handed.{Handed}
@@ -51,6 +50,6 @@ abbrev pub givenOf : Fed → Given
 givenOf f = record { number = numberOf (f .answer); buffer = bufferOf (f .answer); place = placeOf (f .answer); outputs = f .outputs; core = handedOf (f .core) }
 
 -- the event, and 7 where there is none
-abbrev pub fedAtOf : List ℕ → List ℕ → Core → DecodedEvent → Fed
-fedAtOf bundle curves k (Readable e) = feedOf bundle curves k e
-fedAtOf bundle curves k Unreadable = record { answer = Script; outputs = noOutputs; core = k }
+abbrev pub fedAtOf : Lent → Core → DecodedEvent → Fed
+fedAtOf lent k (Readable e) = feedOf lent k e
+fedAtOf lent k Unreadable = record { answer = Script; outputs = noOutputs; core = k }

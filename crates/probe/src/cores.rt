@@ -1,6 +1,7 @@
 // The core: an event on any core that is handed in.
 ghost use mathlib.Core.Path.{_≡_};
 ghost use Rattle.script.specs.Script.{eventAt};
+ghost use Rattle.filter.specs.Lent.{lentOf};
 ghost use Rattle.probe.specs.Cores as K;
 use answers::Answer;
 use control::FilterRegisters;
@@ -128,7 +129,7 @@ fn numbers(f: Fed) -> Given
 
 // The event at a place of a script, and 7 where there is none.
 fn fed_at(bundle: &[u8], curves: &[u8], core: Core, script: &[u8], place: usize) -> Fed
-    ensures { λ r. ⌜ r ≡ K.fedAtOf (now (bundle .entry)) (now (curves .entry)) core (eventAt (now (script .entry)) place) ⌝ }
+    ensures { λ r. ⌜ r ≡ K.fedAtOf (lentOf (now (bundle .entry)) (now (curves .entry))) core (eventAt (now (script .entry)) place) ⌝ }
 {
     let decoded = script::event_at(script, place);
     match decoded {
@@ -149,7 +150,7 @@ fn fed_at(bundle: &[u8], curves: &[u8], core: Core, script: &[u8], place: usize)
 // One event of twelve bytes on the core that is handed in.
 #[no_mangle]
 pub extern "C" fn probe_feed(bundle: &[u8], curves: &[u8], core: Handed, event: &[u8]) -> Given
-    ensures { λ r. ⌜ r ≡ K.givenOf (K.fedAtOf (now (bundle .entry)) (now (curves .entry)) (K.handedCoreOf core) (eventAt (now (event .entry)) 0)) ⌝ }
+    ensures { λ r. ⌜ r ≡ K.givenOf (K.fedAtOf (lentOf (now (bundle .entry)) (now (curves .entry))) (K.handedCoreOf core) (eventAt (now (event .entry)) 0)) ⌝ }
 {
     numbers(fed_at(bundle, curves, taken(core), event, 0))
 }

@@ -80,7 +80,7 @@ pub extern "C" fn probe_any_sample_curve(curves: &[u8], curve: u8, input: f32) -
 }
 
 #[no_mangle]
-pub extern "C" fn probe_summer_resting_output(bundle: &[u8], count: usize) -> f32
+pub extern "C" fn probe_summer_resting_output(bundle: &[u8], count: u8) -> f32
     ensures { λ r. ⌜ r ≡ summerRestingOutputOf (now (bundle .entry)) count ⌝ }
 {
     curves::summer_resting_output(bundle, count)

@@ -17,7 +17,7 @@ filter-sample-requires c κs = search needs
 
 returns : tie.Need-returns
 unfolding freshSampleOf
-returns c = ?
+returns c = simp (c .filter-sample .ensures, c .before .summer-slot .ensures, c .before .before .before .before .refresh .ensures, c .before .before .before .before .before .update .ensures)
 
 pub sampled-spec : {M : Type 1} → statement M
 sampled-spec = tie.close (tie.spec update-requires refresh-requires summer-slot-requires filter-sample-requires returns)
