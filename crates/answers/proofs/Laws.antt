@@ -27,14 +27,6 @@ first-done a b e = go (isDoneOf a) refl
     go true h = (done-is a h, simp h at e)
     go false h = let d : a ≡ Done = simp h at e in (d, (cc))
 
--- It does not matter how a chain of answers is grouped.
-pub first-assoc : (a b c : Answer) → firstOf (firstOf a b) c ≡ firstOf a (firstOf b c)
-first-assoc a b c = go (isDoneOf a) refl
-  where
-    go : (d : Bool) → isDoneOf a ≡ d → firstOf (firstOf a b) c ≡ firstOf a (firstOf b c)
-    go true h = simp h
-    go false h = simp h
-
 -- A test whose answer is done held.
 pub unless-done : (ok : Bool) (refusal : Answer) → isDoneOf refusal ≡ false → unlessOf ok refusal ≡ Done → ok ≡ true
 unless-done true refusal r h = refl

@@ -49,7 +49,8 @@ returns-3 c =
     let r = s .before .before .before .before in
     let a = r .before .before .args in
     rw (judge-append (a .buffer) (now (a .bytes)) (a .lower ∷ []) (a .upper ∷ []), c .interpolate .ensures)
-    (both-read _ _ _ _ (λ x y. interpolateOf x y (a .fraction)) (sym (s .before .before .first2 .given .1) ∙ r .read-entry .ensures) (sym (c .before .before .second2 .given .1) ∙ s .read-entry2 .ensures))
+    (both-read _ _ _ _ (λ x y. interpolateOf x y (a .fraction)) (sym (s .before .before .first2 .given .1) ∙ r .read-entry .ensures)
+    (sym (c .before .before .second2 .given .1) ∙ s .read-entry2 .ensures))
 
 pub read-between-spec : {M : Type 1} → statement M
 read-between-spec =

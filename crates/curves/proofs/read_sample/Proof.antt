@@ -67,7 +67,8 @@ returns-3 c =
     let a = p .before .before .before .args in
     let load = p .before .load-position .result in
     rw (← p .before .load-position .ensures, ← p .input-position .ensures, corners-apart (now (a .bundle)), c .interpolate .ensures)
-    (both-read _ _ _ _ (λ x y. interpolateOf x y (load .fraction)) (sym (s .before .before .lower2 .given .1) ∙ r .read-row .ensures) (sym (c .before .before .upper2 .given .1) ∙ s .read-row2 .ensures))
+    (both-read _ _ _ _ (λ x y. interpolateOf x y (load .fraction)) (sym (s .before .before .lower2 .given .1) ∙ r .read-row .ensures)
+    (sym (c .before .before .upper2 .given .1) ∙ s .read-row2 .ensures))
 
 pub read-sample-spec : {M : Type 1} → statement M
 read-sample-spec =
