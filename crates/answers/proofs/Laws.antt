@@ -1,6 +1,6 @@
 -- Answers taken one after the other. The cases of the enum are gone through once, in `done-is`.
-use mathlib.Core.Path.{_≡_, refl, ap}
-use mathlib.Core.Bool.{Bool, true, false}
+use mathlib.Core.Path.{_≡_, refl, sym, ap}
+use mathlib.Core.Bool.{Bool, true, false, cond}
 use Rattle.answers.specs.declared.Answer.{Answer}
 use Rattle.answers.specs.declared.Answer.the-variants.{Done, BundleLength, Header, Entry, CurvesLength, InputNotFinite, Domain, Script, OutputLength, MixerInputs, Argument}
 use Rattle.answers.specs.Answers.{isDoneOf, firstOf, unlessOf}
@@ -31,3 +31,11 @@ first-done a b e = go (isDoneOf a) refl
 pub unless-done : (ok : Bool) (refusal : Answer) → isDoneOf refusal ≡ false → unlessOf ok refusal ≡ Done → ok ≡ true
 unless-done true refusal r h = refl
 unless-done false refusal r h = cc (ap isDoneOf h)
+
+-- An answer with nothing after it.
+pub first-of-done : (a : Answer) → firstOf a Done ≡ a
+first-of-done a = go (isDoneOf a) refl
+  where
+    go : (d : Bool) → isDoneOf a ≡ d → cond d Done a ≡ a
+    go true h = sym (done-is a h)
+    go false h = refl

@@ -11,7 +11,7 @@ use borrow.Author.Tests.{le-leb}
 use Rattle.answers.specs.declared.Answer.{Answer}
 use Rattle.answers.specs.declared.Answer.the-variants.{Done, Domain, Argument}
 use Rattle.answers.specs.Answers.{isDoneOf, firstOf, unlessOf}
-use Rattle.answers.proofs.Laws.{done-is, first-done, unless-done}
+use Rattle.answers.proofs.Laws.{done-is, first-done, first-of-done, unless-done}
 use Rattle.integrator.specs.declared.IntegratorState.{IntegratorState}
 use Rattle.integrator.specs.declared.Substeps.{Substeps}
 use Rattle.integrator.specs.declared.Substeps.the-variants.{Settled, NotFinite}
@@ -41,14 +41,6 @@ use Rattle.filter.specs.Core.{freshTopologyOf, coreOf, judgeCoreOf, coun
 use Rattle.filter.specs.Core.{changeOf, takeOf, feedEventOf, feedOf}
 use Rattle.filter.specs.Plain.{Plain, refusedAt, plainStart, plainChange, plainTaken, plainSample, plainStep, plainTrace}
 use Rattle.filter.specs.Lists.{coreTrace, shown, shownAll, Fresh, AllFresh}
-
--- nothing after an answer is the answer
-pub first-of-done : (a : Answer) → firstOf a Done ≡ a
-first-of-done a = go (isDoneOf a) refl
-  where
-    go : (d : Bool) → isDoneOf a ≡ d → cond d Done a ≡ a
-    go true h = sym (done-is a h)
-    go false h = refl
 
 -- What every core of a list has: a valid state, all else worked out afresh from it, and controls that are not refused.
 pub record Invariant (l : Lent) (k : Core) : Type 0 where

@@ -10,7 +10,7 @@ use lib.Seq.{take-at}
 use borrow.Author.Tests.{le-leb}
 use Rattle.answers.specs.declared.Answer.the-variants.{Done}
 use Rattle.answers.specs.Answers.{isDoneOf}
-use Rattle.answers.proofs.Laws.{done-is}
+use Rattle.answers.proofs.Laws.{done-is, first-of-done}
 use Rattle.wire.specs.Wire.{Bytes}
 use Rattle.control.specs.declared.State.{State}
 use Rattle.control.specs.declared.DecodedState.the-variants.{Valid}
@@ -21,7 +21,6 @@ use Rattle.script.specs.declared.Event.{Event}
 use Rattle.script.specs.Script.{eventsOf, samplesOf}
 use Rattle.filter.specs.Lent.{Lent, judgeLentOf}
 use Rattle.filter.specs.Plain.{Plain, plainStart, plainStep}
-use Rattle.filter.proofs.Demand3.{first-of-done}
 use Rattle.run.specs.Run.{Ran, stopped, went, playOf, playedOf, sampleBytes, judgeRunOf, judgeScriptOf, leftOf, runOf}
 use Rattle.run.specs.Pieces.{Piece, eventsOfAll, Ready, AllReady, Told, told, toldRan, joinTold, piecesOf, plainTold}
 use Rattle.run.proofs.Bytes.{length-outputs, outputs-append}

@@ -162,10 +162,6 @@ header s h =
       readable = r .1;
     }
 
--- At most 65,536 slices.
-pub slices-few : (s : List ℕ) → wellFormed s ≡ true → length (slicesOf s) ≤ 65536
-slices-few s h = omega (arith, length-slices (eventCountOf s) (drop 8 s), header s h .few)
-
 -- As many events as its count says.
 pub events-count : (s : List ℕ) → wellFormed s ≡ true → length (eventsOf s) ≡ eventCountOf s
 events-count s h = length-events (slicesOf s) (header s h .readable) ∙ length-slices (eventCountOf s) (drop 8 s)
