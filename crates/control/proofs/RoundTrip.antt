@@ -17,6 +17,7 @@ use mir.Syntax.{w16}
 use mir.Val.{ofZ, SFits, boolByte}
 use mir.ValLaws.{toZ-ofZ, ofZ-fits}
 use borrow.Author.Tests.{leb-true, eqb-true, eq-eqb}
+use Rattle.floats.proofs.Laws.{both}
 use Rattle.wire.specs.Wire.{Bytes, little, byteAt, numberAt, u32At, i16At, f32At, bytesOf, floatBytes}
 use Rattle.wire.proofs.Laws.{little-bytesOf, bytesOf-numberAt}
 use Rattle.wire.proofs.Signed.{bytesOf-i16At}
@@ -26,7 +27,7 @@ use Rattle.control.specs.declared.State.{State}
 use Rattle.control.specs.declared.DecodedState.the-variants.{Valid, Invalid}
 use Rattle.control.specs.Block.{finiteF32Of, finiteFloatsOf, validOf, blockOf, fieldsOf, decodeOf, encodeOf}
 use Rattle.control.proofs.Block.{block-long}
-use Rattle.control.proofs.Valid.{Within, valid-ranges, four, both}
+use Rattle.control.proofs.Valid.{Within, valid-ranges, four}
 
 -- ---- the floats of a valid state
 

@@ -11,6 +11,7 @@ use lib.Ieee.{Float, nan, inf, fin, binary32, up, down, lt, neg, ofInt, ofBits, 
 use lib.Ieee.Scale.{finite}
 use lib.Ieee.Bits.{is-true}
 use borrow.Author.Tests.{le-leb, leb-true, ltb-false}
+use Rattle.floats.proofs.Laws.{both}
 use Rattle.floats.specs.Floats.{clampOf}
 use Rattle.integrator.specs.declared.IntegratorState.{IntegratorState}
 use Rattle.control.specs.declared.State.{State}
@@ -58,9 +59,6 @@ four true true true d h = (refl, refl, refl, h)
 four true true false d h = absurd (true≢false (sym h))
 four true false c d h = absurd (true≢false (sym h))
 four false b c d h = absurd (true≢false (sym h))
-
-pub both : (a b : Bool) → (a && b) ≡ true → (a ≡ true) × (b ≡ true)
-both a b h = let p = four true true a b h in (p .2, p .3)
 
 pub record Ranges (s : State) : Type 0 where
   pub cutoff : s .registers .cutoff ≤ 2047

@@ -1,6 +1,6 @@
 -- What `update` puts together is the topology. Assumes nothing.
-use mathlib.Core.Path.{_≡_, refl}
-use mathlib.Core.Bool.{Bool, true, false, not, _&&_}
+use mathlib.Core.Path.{_≡_}
+use mathlib.Core.Bool.{Bool, false, not, _&&_, and-true}
 use mathlib.Core.List.{List, [], _∷_, _++_}
 use Prim.Native.Nat.{ℕ, _+_, _*_, _≤_}
 use native.Mathlib.Nat.{add-zero, le-trans}
@@ -13,10 +13,6 @@ use Rattle.wire.specs.Text.{ascii}
 use Rattle.mixing.specs.Topology.{one, reciprocalOf, filterCountOf, bypassCountOf, outputCountOf, topologyOf}
 use Rattle.mixing.specs.Line.{digit, flag, lineOf}
 use Rattle.mixing.proofs.Facts.{mixer-is, filter-most, bypass-most, output-most, mixer-most}
-
-and-true : (b : Bool) → (b && true) ≡ b
-and-true true = refl
-and-true false = refl
 
 -- f are the flags of the filter, o is voice 3 off, m the mode's outputs; n, b and q are the counts
 pub topology-told : (routing mode : ℕ) {f0 f1 f2 f3 o m0 m1 m2 : Bool} {n b q u v : ℕ} {x y z : Float}

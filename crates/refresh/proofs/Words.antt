@@ -6,6 +6,7 @@ use mathlib.Core.List.{List, [], _∷_, map}
 use native.Mathlib.Omega.{arith}
 use Rattle.answers.specs.declared.Answer.the-variants.{Done}
 use Rattle.answers.specs.declared.Buffer.the-variants.{Bundle}
+use Rattle.floats.proofs.Laws.{both}
 use Rattle.wire.specs.Wire.{sixteenAt, u32At, usableAt, allUsable}
 use Rattle.bundle.specs.Layout.{integratorGainPlace, dampingPlace, sourceGainModulationPlace}
 use Rattle.bundle.specs.Opening.{judgePlacesOf}
@@ -13,10 +14,6 @@ use Rattle.bundle.proofs.Laws.{judge-append}
 use Rattle.controls.specs.Controls.{integratorGainOf}
 use Rattle.controls.specs.Judging.{judgeFilterOf}
 use Rattle.refresh.specs.Refresh.{gainsOf, judgeFilterIfOf}
-
-both : (a b : Bool) → (a && b) ≡ true → (a ≡ true) × (b ≡ true)
-both true b e = (refl, e)
-both false b e = (e, cc)
 
 -- Entries whose words are each usable are judged so.
 words-judged : (bundle places : List ℕ) → allUsable (map (u32At bundle) places) ≡ true → judgePlacesOf Bundle bundle places ≡ Done

@@ -1,7 +1,7 @@
 -- Laws of records and of the words in them. Assumes nothing.
 use Prim.Native.Nat.{ℕ, zero, suc, _+_, _*_, _-_, _/_, _%_, _≤_, _<_}
 use mathlib.Core.Path.{_≡_, refl, ap, sym, subst, _∙_}
-use mathlib.Core.Bool.{Bool, true, false, not, _&&_}
+use mathlib.Core.Bool.{Bool, true, not, _&&_, and-assoc, and-true}
 use mathlib.Core.List.{List, []}
 use native.Mathlib.Numerals.{add-one}
 use native.Mathlib.Omega.{arith}
@@ -79,14 +79,6 @@ module _ (x : ℕ) (h : 0x8000_0000 ≤ x) (l : x < 0x1_0000_0000) where
 
 -- ---- floats side by side
 
-and-assoc : (a b c : Bool) → (a && (b && c)) ≡ ((a && b) && c)
-and-assoc true b c = refl
-and-assoc false b c = refl
-
-and-true : (b : Bool) → (b && true) ≡ b
-and-true true = refl
-and-true false = refl
-
 -- `all` is of the floats before i
 pub one-more : (s : List ℕ) (p : ℕ) (xs : List Float) (i : ℕ) (all r : Bool) → i < length xs
     → r ≡ eqb (u32At s (p + 4 * i)) (toBits binary32 (getD xs i nan))
@@ -94,7 +86,7 @@ pub one-more : (s : List ℕ) (p : ℕ) (xs : List Float) (i : ℕ) (all r : Boo
     → areFloats s p xs ≡ ((all && r) && areFloats s (p + 4 * (i + 1)) (drop (i + 1) xs))
 one-more s p xs i all r h e q =
     let next : p + 4 * i + 4 ≡ p + 4 * (i + 1) = omega arith in
-    q ∙ rw (← next, add-one, drop-cons xs i nan, ← e) (and-assoc all r (areFloats s (p + 4 * i + 4) (drop (suc i) xs)))
+    q ∙ rw (← next, add-one, drop-cons xs i nan, ← e) (sym (and-assoc all r (areFloats s (p + 4 * i + 4) (drop (suc i) xs))))
 
 pub at-end : (s : List ℕ) (p : ℕ) (xs : List Float) (i : ℕ) (all : Bool) → length xs ≤ i → areFloats s p xs ≡ (all && areFloats s (p + 4 * i) (drop i xs)) → all ≡ areFloats s p xs
 at-end s p xs i all h q = sym (q ∙ rw (drop-of-length-le xs h) (and-true all))

@@ -4,11 +4,12 @@ use native.Mathlib.Omega.{arith}
 use mathlib.Core.Path.{_≡_, refl, sym}
 use mathlib.Core.List.{List, [], _∷_, _++_, append-assoc}
 use lib.ListN.{length, length-append}
-use mathlib.Core.Bool.{Bool, true, false, not, _&&_, true≢false}
+use mathlib.Core.Bool.{true, false, not, true≢false}
 use lib.Dec.{T}
 use lib.Ieee.{Float, nan, inf, fin, binary32, toBits, isNan}
 use lib.Ieee.Scale.{finite}
 use Rattle.sample.specs.Sample.{outputsFinite}
+use Rattle.control.proofs.Valid.{four}
 use Rattle.wire.specs.Wire.{rowBytes}
 use Rattle.wire.proofs.Laws.{length-bytesOf}
 use Rattle.sample.specs.declared.Outputs.{Outputs}
@@ -37,12 +38,6 @@ unfolding isNan
 real nan h = absurd (true≢false (sym h))
 real (inf s) h = tt
 real (fin s m e) h = tt
-
-four : (a b c d : Bool) → (a && b && c && d) ≡ true → (a ≡ true) × (b ≡ true) × (c ≡ true) × (d ≡ true)
-four true true true d h = (refl, refl, refl, h)
-four true true false d h = absurd (true≢false (sym h))
-four true false c d h = absurd (true≢false (sym h))
-four false b c d h = absurd (true≢false (sym h))
 
 pub no-nans : (o : Outputs) → outputsFinite o ≡ true → T (not (isNan (o .high))) × T (not (isNan (o .band))) × T (not (isNan (o .low))) × T (not (isNan (o .selected)))
 no-nans o h =

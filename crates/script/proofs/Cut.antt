@@ -1,7 +1,7 @@
 -- However the events of a well-formed script are cut into pieces, the pieces are well-formed scripts, and their events in a row are the whole's.
 use Prim.Native.Nat.{ℕ, zero, suc, _+_, _*_, _≤_}
 use mathlib.Core.Path.{_≡_, refl, sym, ap, _∙_}
-use mathlib.Core.Bool.{Bool, true, false, cond, _&&_, true≢false}
+use mathlib.Core.Bool.{Bool, true, false, cond, _&&_, true≢false, and-assoc}
 use mathlib.Core.List.{List, [], _∷_, _++_, map}
 use native.Mathlib.Omega.{arith}
 use native.Mathlib.Nat.{add-assoc, zero-add}
@@ -9,6 +9,7 @@ use lib.Dec.{eqb, leb}
 use lib.ListN.{length, take, drop, length-append, take-append-drop, length-drop}
 use lib.Seq.{take-at, drop-at, take-add, take-all}
 use borrow.Author.Tests.{eqb-true, eq-eqb, leb-true, le-leb}
+use Rattle.floats.proofs.Laws.{both}
 use Rattle.wire.specs.Wire.{Bytes, byteAt, u32At, f32At, bytesOf}
 use Rattle.wire.proofs.Laws.{length-bytesOf, numberAt-bytesOf, numberAt-first, numberAt-second, bytesOf-numberAt}
 use Rattle.script.specs.declared.Event.{Event}
@@ -16,10 +17,6 @@ use Rattle.script.specs.declared.DecodedEvent.{DecodedEvent}
 use Rattle.script.specs.declared.DecodedEvent.the-variants.{Readable, Unreadable}
 use Rattle.script.specs.Script.{kindOf, decodeEventOf, isReadable, slicesIn, eventCountOf, slicesOf, allReadable, consOf, eventsIn, eventsOf, samplesOf, headerOk, wellFormed}
 use Rattle.script.specs.Pieces.{joined, scriptOf, AllWellFormed}
-
-both : (a b : Bool) → (a && b) ≡ true → (a ≡ true) × (b ≡ true)
-both true b h = (refl, h)
-both false b h = absurd (true≢false (sym h))
 
 -- ---- readable slices
 
@@ -88,11 +85,7 @@ module _ (bs : List (List ℕ)) (few : length bs ≤ 65536) where
 pub all-append : (a b : List (List ℕ)) → allReadable (a ++ b) ≡ (allReadable a && allReadable b)
 unfolding allReadable
 all-append [] b = refl
-all-append (x ∷ a) b = rw (all-append a b) (and-assoc (isReadable (decodeEventOf x)) (allReadable a) (allReadable b))
-  where
-    and-assoc : (p q r : Bool) → (p && (q && r)) ≡ (p && q && r)
-    and-assoc true q r = refl
-    and-assoc false q r = refl
+all-append (x ∷ a) b = rw (all-append a b) (sym (and-assoc (isReadable (decodeEventOf x)) (allReadable a) (allReadable b)))
 
 pub events-append : (a b : List (List ℕ)) → eventsIn (a ++ b) ≡ eventsIn a ++ eventsIn b
 unfolding eventsIn
