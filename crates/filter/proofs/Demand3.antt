@@ -12,6 +12,8 @@ use Rattle.answers.specs.declared.Answer.{Answer}
 use Rattle.answers.specs.declared.Answer.the-variants.{Done, Domain, Argument}
 use Rattle.answers.specs.Answers.{isDoneOf, firstOf, unlessOf}
 use Rattle.answers.proofs.Laws.{done-is, first-done, first-of-done, unless-done}
+use Rattle.bundle.specs.Opening.{checkOf}
+use Rattle.curves.specs.Building.{judgeLengthOf}
 use Rattle.integrator.specs.declared.IntegratorState.{IntegratorState}
 use Rattle.integrator.specs.declared.Substeps.{Substeps}
 use Rattle.integrator.specs.declared.Substeps.the-variants.{Settled, NotFinite}
@@ -38,9 +40,9 @@ use Rattle.filter.specs.declared.Core.{Core}
 use Rattle.filter.specs.declared.Fed.{Fed}
 use Rattle.filter.specs.Lent.{Lent, judgeLentOf}
 use Rattle.filter.specs.Core.{freshTopologyOf, coreOf, judgeCoreOf, countableOf, soundOf, settledOf, quietOf, withIntegrator, afterOf, coreStartOf, refreshedOf, reselectedOf}
-use Rattle.filter.specs.Core.{changeOf, takeOf, feedEventOf, feedOf}
+use Rattle.filter.specs.Core.{changeOf, takeOf, feedEventOf, coreWriteOf, feedOf}
 use Rattle.filter.specs.Plain.{Plain, refusedAt, plainStart, plainChange, plainTaken, plainSample, plainStep, plainTrace}
-use Rattle.filter.specs.Lists.{coreTrace, shown, shownAll, Fresh, AllFresh}
+use Rattle.filter.specs.Lists.{coreTrace, isSample, shown, shownAll, Fresh, AllFresh}
 
 -- What every core of a list has: a valid state, all else worked out afresh from it, and controls that are not refused.
 pub record Invariant (l : Lent) (k : Core) : Type 0 where
@@ -300,6 +302,29 @@ module _ (l : Lent) (s : State) (started : plainStart l s ≡ Done) where
 
   pub start-agrees : (es : List Event) → Agrees l (start-parts .0) (coreStartOf l s .core) es
   start-agrees es = rw start-core (agrees l (start-parts .0) (coreOf l s) es (fresh-invariant l s (start-parts .1) (start-parts .2)))
+
+-- ---- the methods
+
+-- A write or the reset called by its own method, and not through `feed`, gives the same where what is lent is right; `Core::sample` is `feed` by its contract. So the theorem speaks of every method.
+module _ (l : Lent) (k : Core) (ready : judgeLentOf l ≡ Done) where
+  change-is-event : (e : Event) → isSample e ≡ false → quietOf (changeOf (l .bundle) k e) ≡ feedEventOf l k e
+  change-is-event (CutoffLow v) h = refl
+  change-is-event (CutoffHigh v) h = refl
+  change-is-event (Routing v) h = refl
+  change-is-event (Mode v) h = refl
+  change-is-event (Sample sum energy) h = absurd (true≢false h)
+  change-is-event Reset h = refl
+
+  pub method-is-feed : (e : Event) → isSample e ≡ false → quietOf (coreWriteOf (l .bundle) k e) ≡ feedOf l k e
+  unfolding coreWriteOf feedOf judgeLentOf
+  method-is-feed e other =
+      let opened = first-done (checkOf (l .bundle)) (judgeLengthOf (l .curves)) ready .0 in
+      rw (ready, opened) (go (isDoneOf (judgeCoreOf k)))
+    where
+      go : (d : Bool) → quietOf (cond d (changeOf (l .bundle) k e) (record { answer = judgeCoreOf k; core = k }))
+          ≡ cond d (feedEventOf l k e) (quietOf (record { answer = judgeCoreOf k; core = k }))
+      go true = change-is-event e other
+      go false = refl
 
 -- DEMAND 3, the first half. For all that is lent, every state and every list of events: the start is answered as the plain machine answers it; and where it is not refused, every
 -- sample, state and refusal of the list is the plain machine's, and after each event all that is kept equals what is worked out afresh from the state.
