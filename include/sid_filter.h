@@ -1,9 +1,9 @@
-/* The SID filter: bytes in, bytes out. All numbers in the bytes are little-endian; an f32 is its bits. docs/FORMATS.md has every buffer byte
- * by byte.
+/* The filter of the MOS 6581: bytes in, bytes out. Numbers in the bytes are little-endian, and an f32 is its IEEE 754 bits. docs/FORMATS.md
+ * has every buffer byte by byte.
  *
- * A buffer is a pointer and its length in bytes. Building writes `curves`; a run writes `state` and `output` and only reads the others. No
- * written buffer may overlap another one, and while a call runs nothing else may write what is lent to it.
- * Every call answers by value; none keeps a pointer. */
+ * A buffer is a pointer and its length in bytes; it needs no alignment. Building writes `curves`; a run writes `state` and `output`. All
+ * else is only read. A written buffer must not overlap another one, and while a call runs nothing else may write what is lent to it.
+ * Every call answers by value. None keeps a pointer, allocates, locks or has static data. docs/ENGINE.md says what an engine asks next. */
 #ifndef SID_FILTER_H
 #define SID_FILTER_H
 
@@ -13,6 +13,34 @@
 #ifdef __cplusplus
 extern "C" {
 #endif
+
+/* The version of this library; CHANGELOG.md says what each one changed. */
+#define SID_FILTER_VERSION "0.2.0"
+
+/* Units.
+ *
+ * Time: one sample is one clock of the chip, 985,248 Hz. 65,536 events, the most that a script has, are 66 ms of sound.
+ *
+ * A level is a voltage of the chip, 0 to 1: level = (volts - 0.8228) / 9.5895, and no level is below 0 or above 1. A voice is at
+ *
+ *     SID_FILTER_VOICE_REST + (SID_FILTER_VOICE_SWING * wave + SID_FILTER_VOICE_RISE) * envelope
+ *
+ * with its wave from -1 to 1 and its envelope from 0 to 1: it rests at 0.451, swings by 0.150 and rises by 0.021 at full envelope. The
+ * external input rests at the same level and has no envelope, so it does not rise.
+ *
+ * input_sum is the sum of the levels of what is routed into the filter, by bits 0 to 3 of register 23: a voice that is silent still adds
+ * its rest. source_energy is the sum of (level - rest) squared over the same inputs. With nothing routed both are 0.
+ *
+ * high, band and low are the filter's outputs, 0 at rest. selected adds those that the mode selects, band with its sign turned, times the
+ * mode's gain, each about SID_FILTER_MODE_REST: it rests at 0.3764 a selected mode bit, and is 0 with none selected.
+ *
+ * The volume and voice 3 off (register 24, bits 0 to 3 and 7) change no sample: they act behind the filter, in the mixer and the volume
+ * DAC, which no call has yet. */
+#define SID_FILTER_CLOCK_HZ 985248
+#define SID_FILTER_VOICE_REST 0.45085025f
+#define SID_FILTER_VOICE_SWING 0.15015182f
+#define SID_FILTER_VOICE_RISE 0.021486761f
+#define SID_FILTER_MODE_REST 0.376411f
 
 /* number: 0 on success, else the cause of the refusal.
  * events, samples: what a run had done; 0 for the other calls.
