@@ -73,7 +73,7 @@ pub(crate) fn load_state(path: &[u8], block: &mut [u8]) -> Loaded
 // Puts bytes in the place of a file's: they are written beside it and then take its name, so that it never holds a part of them. Where that fails, it says so.
 pub(crate) fn save(path: &[u8], bytes: &[u8]) -> bool {
     let mut name = [0u8; 4608];
-    let n = bounce_step::beside(&mut name, path);
+    let n = bounce_lines::beside(&mut name, path);
     replace(&name[..n], path, bytes)
 }
 

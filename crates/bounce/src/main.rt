@@ -1,14 +1,17 @@
 // bounce BUNDLE STATE OUTPUT SCRIPT..: runs each script from the state that the last one left, the first from the file STATE, or from the starting value where that
 // is missing. The samples go to OUTPUT, script by script, the end state to STATE, and a line a script to standard output, with a status in the last one.
 mod files;
+mod names;
 
 use answers::Answer;
+use control::DecodedState;
+use control::State;
 use libc::STDOUT_FILENO;
 
-// The statuses beside 0, done, and the ten refusals: a file cannot be read, or cannot be written.
-const UNREAD: u32 = 11;
+// The statuses beside 0, done, and the refusals: the arguments are wrong or a file cannot be read, or one cannot be written.
+const UNREAD: u32 = 101;
 
-const UNWRITTEN: u32 = 12;
+const UNWRITTEN: u32 = 102;
 
 fn main() {
     let status = bounce();
@@ -17,7 +20,7 @@ fn main() {
     io::write_all(STDOUT_FILENO, b"\n");
 }
 
-// Finds the bundle's name. Each of these functions answers the status, and goes on with the next where it can.
+// Each of these functions answers the status, and goes on with the next where it can.
 fn bounce() -> u32 {
     if os::arg_count() < 5 {
         io::write_all(
@@ -26,6 +29,14 @@ fn bounce() -> u32 {
         );
         return UNREAD;
     }
+    if !names::are_apart() {
+        return UNREAD;
+    }
+    find_bundle()
+}
+
+// Finds the bundle's name.
+fn find_bundle() -> u32 {
     let mut path = io::buffer();
     let n = os::arg(1, &mut path);
     if os::errno() != 0 {
@@ -61,10 +72,10 @@ fn open(name: &[u8], bundle: &[u8]) -> u32 {
     resume(bundle, &curves)
 }
 
-// Prints the line of a refusal before the first script, and answers its number.
+// Prints the line of a file that is refused before the first script, and answers the number.
 fn refuse(name: &[u8], answer: Answer) -> u32 {
     let mut line = line_room();
-    let end = bounce_step::script_line(&mut line, name, answer, 0, 0);
+    let end = bounce_lines::refused_line(&mut line, name, answer);
     io::write_all(STDOUT_FILENO, &line[..end]);
     answers::report(answer).number
 }
@@ -80,7 +91,7 @@ fn resume(bundle: &[u8], curves: &[u8]) -> u32 {
     load_state(bundle, curves, &path[..n])
 }
 
-// Loads the state.
+// Loads the state, and judges it before anything is written.
 fn load_state(bundle: &[u8], curves: &[u8], path: &[u8]) -> u32 {
     let mut block = block_room();
     let loaded = files::load_state(path, &mut block);
@@ -89,13 +100,16 @@ fn load_state(bundle: &[u8], curves: &[u8], path: &[u8]) -> u32 {
         return UNREAD;
     }
     let size = loaded.size;
+    let DecodedState::Valid(_) = State::decode(&block[..size]) else {
+        return refuse(path, Answer::Argument);
+    };
     keep(bundle, curves, path, &mut block[..size])
 }
 
-// Saves the state that the scripts leave, but not where the state was refused or samples may be missing from the output.
+// Saves the state that the scripts leave, but not where samples may be missing from the output.
 fn keep(bundle: &[u8], curves: &[u8], path: &[u8], block: &mut [u8]) -> u32 {
     let status = render(bundle, curves, block);
-    if (status == 10) | (status == UNWRITTEN) {
+    if status == UNWRITTEN {
         return status;
     }
     if files::save(path, block) {

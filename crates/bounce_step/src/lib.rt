@@ -1,16 +1,8 @@
 // One script of a bounce, on lent buffers: its samples, the state that it leaves, and what is said of it.
-mod lines;
-mod text;
-
 ghost use mathlib.Core.Path.{_≡_};
-ghost use mathlib.Core.List.{_++_};
 ghost use Rattle.io.specs.Counts.{Counts};
-ghost use Rattle.wire.specs.Text.{ascii};
 ghost use Rattle.filter.specs.Lent.{lentOf};
-ghost use Rattle.bounce_step.specs.Text.{grown, grownEnd};
 ghost use Rattle.bounce_step.specs.Steps.{stepOf};
-pub use lines::script_line;
-use text::push;
 
 // The answer's number, and how many bytes the samples and the line have.
 pub struct Stepped {
@@ -36,21 +28,11 @@ pub fn step(
 {
     let ended = run::run(bundle, curves, state, script, output);
     let answer = ended.answer;
-    let end = lines::script_line(line, name, answer, ended.events, ended.samples);
+    let end = bounce_lines::script_line(line, name, answer, ended.events, ended.samples);
     let told = answers::report(answer);
     Stepped {
         number: told.number,
         samples: 16 * ended.samples,
         line: end,
     }
-}
-
-// The name of the file that is written beside another.
-pub fn beside(out: &mut [u8], path: &[u8]) -> usize
-    ensures { λ r. ⌜ Counts r (now (out .exit)) ⌝ }
-    ensures { λ r. ⌜ r ≡ grownEnd (now (out .entry)) 0 (now (path .entry) ++ ascii ".new") ⌝ }
-    ensures { λ _. ⌜ now (out .exit) ≡ grown (now (out .entry)) 0 (now (path .entry) ++ ascii ".new") ⌝ }
-{
-    let n = push(out, 0, path);
-    push(out, n, b".new")
 }

@@ -1,7 +1,7 @@
 use borrow.Author.Needs.{needs}
-use Rattle.bounce_step.proofs.Laws.{grown-then}
-use Rattle.bounce_step.proofs.beside.Statement.{statement}
-use Rattle.bounce_step.proofs.beside.Tie as tie
+use Rattle.bounce_lines.proofs.Laws.{grown-then}
+use Rattle.bounce_lines.proofs.beside.Statement.{statement}
+use Rattle.bounce_lines.proofs.beside.Tie as tie
 
 push-requires : tie.Need-push-requires
 push-requires c κs = search needs

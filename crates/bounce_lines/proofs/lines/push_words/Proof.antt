@@ -1,7 +1,7 @@
 use borrow.Author.Needs.{needs}
-use Rattle.bounce_step.specs.Lines.{wordsOf}
-use Rattle.bounce_step.proofs.lines.push_words.Statement.{statement}
-use Rattle.bounce_step.proofs.lines.push_words.Tie as tie
+use Rattle.bounce_lines.specs.Lines.{wordsOf}
+use Rattle.bounce_lines.proofs.lines.push_words.Statement.{statement}
+use Rattle.bounce_lines.proofs.lines.push_words.Tie as tie
 
 enum-told : tie.Need-enum-told
 enum-told c = search needs

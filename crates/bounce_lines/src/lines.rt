@@ -3,8 +3,8 @@ ghost use mathlib.Core.Path.{_≡_};
 ghost use Prim.Native.Nat.{_≤_};
 ghost use lib.ListN.{length};
 ghost use Rattle.io.specs.Counts.{Counts};
-ghost use Rattle.bounce_step.specs.Text.{grown, grownEnd};
-ghost use Rattle.bounce_step.specs.Lines.{placedOf, wordsOf, countsOf, refusalOf, scriptLineOf};
+ghost use Rattle.bounce_lines.specs.Text.{grown, grownEnd};
+ghost use Rattle.bounce_lines.specs.Lines.{placedOf, wordsOf, countsOf, refusalOf, refusedLineOf, scriptLineOf};
 use crate::text::push;
 use crate::text::push_number;
 use answers::Answer;
@@ -82,6 +82,18 @@ fn push_refusal(out: &mut [u8], at: usize, answer: Answer) -> usize
     let n = push_number(out, at, answers::report(answer).number as u64);
     let n = push(out, n, b", ");
     push_words(out, n, answer)
+}
+
+// The line of a file that is refused before the first script, from the buffer's start. Answers where it ends.
+pub fn refused_line(out: &mut [u8], name: &[u8], answer: Answer) -> usize
+    ensures { λ r. ⌜ Counts r (now (out .exit)) ⌝ }
+    ensures { λ r. ⌜ r ≡ grownEnd (now (out .entry)) 0 (refusedLineOf (now (name .entry)) answer) ⌝ }
+    ensures { λ _. ⌜ now (out .exit) ≡ grown (now (out .entry)) 0 (refusedLineOf (now (name .entry)) answer) ⌝ }
+{
+    let n = push(out, 0, name);
+    let n = push(out, n, b": refused: ");
+    let n = push_refusal(out, n, answer);
+    push(out, n, b"\n")
 }
 
 // The line of a script, from the buffer's start. Answers where it ends.

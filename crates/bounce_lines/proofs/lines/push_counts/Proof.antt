@@ -1,8 +1,8 @@
 use borrow.Author.Needs.{needs}
-use Rattle.bounce_step.specs.Lines.{countsOf}
-use Rattle.bounce_step.proofs.Laws.{grown-then}
-use Rattle.bounce_step.proofs.lines.push_counts.Statement.{statement}
-use Rattle.bounce_step.proofs.lines.push_counts.Tie as tie
+use Rattle.bounce_lines.specs.Lines.{countsOf}
+use Rattle.bounce_lines.proofs.Laws.{grown-then}
+use Rattle.bounce_lines.proofs.lines.push_counts.Statement.{statement}
+use Rattle.bounce_lines.proofs.lines.push_counts.Tie as tie
 
 push-number-requires : tie.Need-push-number-requires
 push-number-requires c κs = search needs

@@ -3,7 +3,7 @@ ghost use mathlib.Core.Path.{_≡_};
 ghost use Prim.Native.Nat.{_≤_};
 ghost use lib.ListN.{length};
 ghost use Rattle.io.specs.Counts.{Counts};
-ghost use Rattle.bounce_step.specs.Text.{decimalOf, grown, grownEnd};
+ghost use Rattle.bounce_lines.specs.Text.{decimalOf, grown, grownEnd};
 
 // The text with more bytes after it. Answers where it ends.
 pub(crate) fn push(out: &mut [u8], at: usize, text: &[u8]) -> usize

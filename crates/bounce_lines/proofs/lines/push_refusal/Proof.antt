@@ -1,8 +1,8 @@
 use borrow.Author.Needs.{needs}
-use Rattle.bounce_step.specs.Lines.{refusalOf}
-use Rattle.bounce_step.proofs.Laws.{grown-then}
-use Rattle.bounce_step.proofs.lines.push_refusal.Statement.{statement}
-use Rattle.bounce_step.proofs.lines.push_refusal.Tie as tie
+use Rattle.bounce_lines.specs.Lines.{refusalOf}
+use Rattle.bounce_lines.proofs.Laws.{grown-then}
+use Rattle.bounce_lines.proofs.lines.push_refusal.Statement.{statement}
+use Rattle.bounce_lines.proofs.lines.push_refusal.Tie as tie
 
 report-requires : tie.Need-report-requires
 report-requires c κs = search needs

@@ -7,7 +7,7 @@ use Rattle.answers.specs.declared.Answer.{Answer}
 use Rattle.answers.specs.declared.Answer.the-variants.{Done, BundleLength, Header, Entry, CurvesLength, InputNotFinite, Domain, Script, OutputLength, MixerInputs, Argument}
 use Rattle.answers.specs.Answers.{numberOf, isDoneOf}
 use Rattle.wire.specs.Text.{ascii}
-use Rattle.bounce_step.specs.Text.{decimalOf}
+use Rattle.bounce_lines.specs.Text.{decimalOf}
 
 -- Words, and the place of which they speak.
 unfoldable pub placedOf : List ℕ → ℕ → List ℕ
@@ -35,6 +35,10 @@ countsOf events samples = decimalOf events ++ ascii " events, " ++ decimalOf sam
 -- A refusal's number and its words.
 unfoldable pub refusalOf : Answer → List ℕ
 refusalOf answer = decimalOf (numberOf answer) ++ ascii ", " ++ wordsOf answer
+
+-- `state.bin: refused: 10, the state block is invalid`, and a line end.
+unfoldable pub refusedLineOf : List ℕ → Answer → List ℕ
+refusedLineOf name answer = name ++ ascii ": refused: " ++ refusalOf answer ++ ascii "\n"
 
 -- `song.scr: done, 5460 events, 5000 samples`, or
 -- `song.scr: stopped after 17 events, 12 samples: 5, the input sum or the source energy is not finite`, and a line end.

@@ -7,9 +7,9 @@ use lib.ListN.{length, length-set}
 use lib.Seq.{length-take-le, paste, paste-zero, paste-suc}
 use denote.Ref.{now}
 use borrow.Author.Needs.{needs}
-use Rattle.bounce_step.proofs.Laws.{pasted-full, pasted-whole}
-use Rattle.bounce_step.proofs.text.push.Statement.{statement}
-use Rattle.bounce_step.proofs.text.push.Tie as tie
+use Rattle.bounce_lines.proofs.Laws.{pasted-full, pasted-whole}
+use Rattle.bounce_lines.proofs.text.push.Statement.{statement}
+use Rattle.bounce_lines.proofs.text.push.Tie as tie
 
 abbrev Inv-loop : tie.InvT-loop
 Inv-loop out₀ at text i₀ out i = (i ≤ length text) × (at + i ≤ length out₀) × (length out ≡ length out₀) × (out ≡ paste out₀ at text i)
