@@ -1,7 +1,7 @@
 //! Measures what a run costs: one voice, a sine of 440 Hz, in a low-pass.
 //!
-//! The same 65,536 samples are played in blocks of several lengths, each block a call from the state that the last one left. The scripts are
-//! built before. A round plays them all; the best of the rounds counts, so that other work on the machine is left out.
+//! The same 65,536 samples are played in blocks of several lengths, each block a call from the state that the last one left. The scripts
+//! are built before. A round plays them all; the best of the rounds counts, so that other work on the machine is left out.
 mod show;
 
 use show::{bundle_bytes, grouped, progress, progress_done};

@@ -89,7 +89,7 @@ impl Filter {
 
     /// How much stronger sines leave the filter than they enter it, in dB, from 50 Hz to 20 kHz.
     fn gains(&self, writes: &[Event]) -> Result<Vec<(f64, f64)>, Box<dyn Error>> {
-        const POINTS: i32 = 72;
+        const POINTS: i32 = 96;
         let gain = |point: i32| {
             let sine = self.sine(writes, 50.0 * 400_f64.powf(f64::from(point) / f64::from(POINTS)), SWING)?;
             Ok((sine.frequency, 20.0 * (sine.strength(|sample| sample.selected) / SWING).log10()))
@@ -101,7 +101,7 @@ impl Filter {
     /// as the frequency rises, so a sine near it leads to it.
     fn frequency(&self, writes: &[Event], near: f64) -> Result<f64, Box<dyn Error>> {
         let mut frequency = near;
-        for _ in 0..3 {
+        for _ in 0..2 {
             let sine = self.sine(writes, frequency, QUIET)?;
             frequency = sine.frequency * sine.strength(|sample| sample.low) / sine.strength(|sample| sample.band);
         }
@@ -144,10 +144,12 @@ fn settled(code: u16) -> [Event; 3] {
     [low, high, high]
 }
 
-fn hertz() -> Axis {
-    let marks =
-        [(50.0, "50"), (100.0, "100"), (200.0, "200"), (500.0, "500"), (1e3, "1k"), (2e3, "2k"), (5e3, "5k"), (1e4, "10k"), (2e4, "20k")];
-    Axis::logarithmic("frequency in Hz", 50.0, 20_000.0, &marks)
+/// The frequencies from one to 20 kHz.
+fn hertz(from: f64) -> Axis {
+    let marks = [20.0, 50.0, 100.0, 200.0, 500.0].map(|at| (at, at.to_string()));
+    let thousands = [1, 2, 5, 10, 20].map(|k| (1_000.0 * f64::from(k), format!("{k}k")));
+    let marks = marks.into_iter().chain(thousands).filter(|(at, _)| *at >= from).collect();
+    Axis { label: "frequency in Hz", from, to: 20_000.0, logarithmic: true, marks }
 }
 
 /// The 31 curves, in their three groups.
@@ -190,7 +192,7 @@ fn curves(curves: &Curves) -> String {
 /// The filter's frequency over the cutoff code, on two scales.
 fn cutoff_in_hertz(filter: &Filter) -> Result<String, Box<dyn Error>> {
     let mut measured: Vec<(f64, f64)> = Vec::new();
-    // Each 16th code and the one before it: where the most bits turn, the frequency falls.
+    // Each 16th code and the one before it: the frequency jumps where many bits of the code turn.
     for code in (0..2_048).filter(|code| code % 16 == 0 || code % 16 == 15) {
         progress(&format!("pictures: the frequency at cutoff {code}"));
         let mut writes = vec![Event::Routing(0x01), Event::Mode(0x2f)];
@@ -199,8 +201,7 @@ fn cutoff_in_hertz(filter: &Filter) -> Result<String, Box<dyn Error>> {
         measured.push((f64::from(code), filter.frequency(&writes, near)?));
     }
     progress_done();
-    let sheet: Vec<(f64, f64)> =
-        (0..2_048).step_by(23).map(|code| (f64::from(code), 30.0 + 11_970.0 * f64::from(code) / 2_047.0)).collect();
+    let sheet: Vec<(f64, f64)> = (0..=89).map(|at| f64::from(23 * at)).map(|code| (code, 30.0 + 11_970.0 * code / 2_047.0)).collect();
 
     let mut picture = Picture::new(
         1080,
@@ -208,21 +209,12 @@ fn cutoff_in_hertz(filter: &Filter) -> Result<String, Box<dyn Error>> {
         "The cutoff code in Hz",
         "Where the low-pass and the band-pass output are equally strong, by quiet sines run through the library. Resonance 0, displacement 0.",
     );
-    let marks = [
-        (20.0, "20"),
-        (50.0, "50"),
-        (100.0, "100"),
-        (200.0, "200"),
-        (500.0, "500"),
-        (1e3, "1k"),
-        (2e3, "2k"),
-        (5e3, "5k"),
-        (1e4, "10k"),
-        (2e4, "20k"),
-    ];
     let scales = [
-        ("On a straight scale", Axis::straight("frequency in Hz", 0.0, 20_000.0, 5_000.0, 0)),
-        ("On a logarithmic scale", Axis::logarithmic("frequency in Hz", 20.0, 20_000.0, &marks)),
+        (
+            "On a straight scale",
+            Axis::marked("frequency in Hz", 0.0, 20_000.0, &[(0.0, "0"), (5e3, "5k"), (1e4, "10k"), (1.5e4, "15k"), (2e4, "20k")]),
+        ),
+        ("On a logarithmic scale", hertz(20.0)),
     ];
     let (bold, plain) = (Pen::new(BLUE, 2.2, ""), Pen::new("#1a1a1a", 1.4, "5 3"));
     for ((title, up), left) in scales.into_iter().zip([86.0, 616.0]) {
@@ -245,7 +237,7 @@ fn response(filter: &Filter) -> Result<String, Box<dyn Error>> {
         1080,
         500,
         "The filter over the frequency",
-        "Sines of a third of a voice's swing run through the library; what is selected beside what went in. Displacement 0.",
+        "Sines of a third of a voice's swing run through the library: the selected output over the input, in dB. Displacement 0.",
     );
     for (place, (title, mode)) in [("Low-pass", 0x1f), ("Band-pass", 0x2f), ("High-pass", 0x4f)].into_iter().enumerate() {
         let panel = Panel {
@@ -254,7 +246,7 @@ fn response(filter: &Filter) -> Result<String, Box<dyn Error>> {
             top: 100.0,
             width: 268.0,
             height: 290.0,
-            across: hertz(),
+            across: hertz(50.0),
             up: Axis::straight("gain in dB", -50.0, 10.0, 10.0, 0),
         };
         picture.panel(&panel);
@@ -272,9 +264,9 @@ fn response(filter: &Filter) -> Result<String, Box<dyn Error>> {
     for (place, (code, colour)) in CUTOFFS.into_iter().enumerate() {
         picture.key(130.0 + 90.0 * place as f64, 470.0, 34.0, &Pen::new(colour, 2.5, ""), &code.to_string());
     }
-    picture.note(560.0, 470.0, "resonance");
+    picture.note(660.0, 470.0, "resonance");
     for (place, (resonance, dashes)) in RESONANCES.into_iter().enumerate() {
-        picture.key(640.0 + 90.0 * place as f64, 470.0, 34.0, &Pen::new("#1a1a1a", 1.8, dashes), &resonance.to_string());
+        picture.key(740.0 + 90.0 * place as f64, 470.0, 34.0, &Pen::new("#1a1a1a", 1.8, dashes), &resonance.to_string());
     }
     Ok(picture.finish())
 }
@@ -363,7 +355,7 @@ fn heard_over_the_frequency(filter: &Filter, picture: &mut Picture) -> Result<()
         top: PLACES[1].1,
         width: 420.0,
         height: 280.0,
-        across: hertz(),
+        across: hertz(50.0),
         up: Axis::straight("gain in dB", -50.0, 10.0, 10.0, 0),
     };
     picture.panel(&panel);

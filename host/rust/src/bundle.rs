@@ -10,7 +10,8 @@ pub const CURVES_BYTES: usize = 254_076;
 
 /// The tables of the filter: bytes that were opened, so that the header is the fixed one and every entry usable.
 ///
-/// It borrows its bytes or owns them. A `Bundle<'static>` of a `Vec` can stand in a struct beside its [`Curves`], and threads can share both.
+/// It borrows its bytes or owns them. A `Bundle<'static>` of a `Vec` can stand in a struct beside its [`Curves`], and threads can share
+/// both.
 #[derive(Clone)]
 pub struct Bundle<'a> {
     bytes: Cow<'a, [u8]>,

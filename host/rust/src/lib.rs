@@ -36,7 +36,8 @@
 //!
 //! # Units
 //!
-//! **Time.** One sample is one clock of the chip: [`CLOCK_HZ`], 985,248, are a second. 65,536 events, the most that a script has, are 66 ms.
+//! **Time.** One sample is one clock of the chip: [`CLOCK_HZ`], 985,248, are a second. 65,536 events, the most that a script has, are 66 ms
+//! of sound.
 //!
 //! **Levels.** A level is a voltage of the chip, 0 to 1: level = (volts − 0.8228) / 9.5895, and no level is below 0 or above 1.
 //! [`voice_level`] gives the level of a voice from its wave, −1 to 1, and its envelope, 0 to 1. A voice rests at [`VOICE_REST`], 0.451;
@@ -44,7 +45,8 @@
 //! has no envelope, so it does not rise.
 //!
 //! **In.** `input_sum` is the sum of the levels of what is routed into the filter, by bits 0 to 3 of [`Event::Routing`]: a voice that is
-//! silent still adds its rest. `source_energy` is the sum of (level − [`VOICE_REST`])² over the same inputs. With nothing routed both are 0.
+//! silent still adds its rest. `source_energy` is the sum of (level − [`VOICE_REST`])² over the same inputs. With nothing routed both
+//! are 0.
 //!
 //! **Out.** `high`, `band` and `low` of a [`Sample`] are the filter's outputs. `selected` adds those that the mode selects, band with its
 //! sign turned, times the mode's gain, each about [`MODE_REST`], 0.376. With none selected it is 0.

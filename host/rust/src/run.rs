@@ -5,7 +5,7 @@ use std::fmt;
 /// The length of a sample's output in bytes.
 pub const SAMPLE_BYTES: usize = 16;
 
-/// A run that went through.
+/// A run that did all its events.
 #[derive(Clone, Copy, Debug, PartialEq, Eq)]
 pub struct Done {
     /// The events done: all.
@@ -76,6 +76,10 @@ pub fn samples(output: &[u8]) -> impl ExactSizeIterator<Item = Sample> + '_ {
 /// Refused before the first event are curves of another length (4), an invalid state (10), an output shorter than
 /// [`Script::output_bytes`] (8), and entries (3) or controls (6) that the state leads to; at an event a sum or energy that is not finite
 /// (5), an entry (3) and a number that would not be finite (6).
+///
+/// A call of one sample takes 190 to 215 ns. A sample takes 80 ns in blocks of 16, 75 ns in blocks of 64, and 73 ns in blocks of 1,024 or
+/// more. This is one voice, a sine in a low-pass, with the scripts built before: the best of 200 rounds of the example `cost`, in five
+/// sittings on an AMD EPYC that others used at the same time.
 pub fn run(bundle: &Bundle, curves: &Curves, state: &mut State, script: &Script, output: &mut [u8]) -> Result<Done, Stop> {
     run_bytes(bundle, curves, state, script.as_bytes(), output)
 }
