@@ -22,8 +22,7 @@ fn main() {
 }
 
 fn tell_how(library: &Path) {
-    eprintln!("sid-filter: there is no {}", library.display());
-    eprintln!(
-        "sid-filter: build it by `rt staticlib sid_filter` in the repository's root, or let SID_FILTER_LIB name the folder that has it"
-    );
+    eprintln!("sid-filter: the library is missing: {}", library.display());
+    eprintln!("sid-filter: build it with `tools/library` in the repository's root, which needs the Rattle kit,");
+    eprintln!("sid-filter: or set SID_FILTER_LIB to the folder that holds libsid_filter.a");
 }

@@ -3,29 +3,31 @@
 //! usage: pictures FOLDER
 //!
 //! - curves.svg: the 31 transfer curves, as built from the bundle.
-//! - response.svg: the three modes over the frequency, at several cutoffs and resonances. Sines are run through the filter as one voice.
+//! - cutoff.svg: the filter's frequency over the cutoff code. Quiet sines are run through the filter as one voice.
+//! - response.svg: the three modes over the frequency, at several cutoffs and resonances, by sines too.
 //! - displacement.svg: what a step of the cutoff leaves behind, in the state and in the sound.
 mod chart;
 mod show;
 
 use chart::{between, Axis, Panel, Pen, Picture};
 use show::{bundle_bytes, progress, progress_done};
-use sid_filter::{run, samples, Bundle, Curves, Event, Script, State};
+use sid_filter::{run_samples, Bundle, Curves, Event, Sample, Script, State, CLOCK_HZ, VOICE_REST, VOICE_SWING};
 use std::error::Error;
-use std::f64::consts::PI;
+use std::f64::consts::TAU;
 use std::path::Path;
 use std::process::ExitCode;
 
-/// The chip's clock in Hz.
-const RATE: f64 = 985_248.0;
-/// The level of a voice at rest, and the swing of the sines: a third of a voice's.
-const REST: f64 = 0.45;
-const SWING: f64 = 0.05;
+/// Samples a second.
+const RATE: f64 = CLOCK_HZ as f64;
+/// The swing of the sines: a third of a voice's, and for the cutoff a tenth, so that their own energy hardly moves it.
+const SWING: f64 = VOICE_SWING as f64 / 3.0;
+const QUIET: f64 = VOICE_SWING as f64 / 10.0;
 
 const BLUE: &str = "#0b5394";
 const ORANGE: &str = "#d9700b";
 const GREEN: &str = "#2a7f3f";
 const PURPLE: &str = "#7b2d8b";
+const RED: &str = "#b3141b";
 
 fn main() -> ExitCode {
     let Some(folder) = std::env::args().nth(1) else {
@@ -42,12 +44,14 @@ fn main() -> ExitCode {
 }
 
 fn draw_all(folder: &Path) -> Result<(), Box<dyn Error>> {
-    let bytes = bundle_bytes()?;
-    let bundle = Bundle::open(&bytes)?;
-    let filter = Filter { bundle, curves: Curves::build(&bundle)? };
-    for (name, drawn) in
-        [("curves.svg", curves(&filter.curves)), ("response.svg", response(&filter)?), ("displacement.svg", displacement(&filter)?)]
-    {
+    let bundle = Bundle::open(bundle_bytes()?)?;
+    let filter = Filter { curves: Curves::build(&bundle)?, bundle };
+    for (name, drawn) in [
+        ("curves.svg", curves(&filter.curves)),
+        ("cutoff.svg", cutoff_in_hertz(&filter)?),
+        ("response.svg", response(&filter)?),
+        ("displacement.svg", displacement(&filter)?),
+    ] {
         let path = folder.join(name);
         std::fs::write(&path, &drawn).map_err(|error| format!("{}: {error}", path.display()))?;
         println!("{}: {} bytes", path.display(), drawn.len());
@@ -56,49 +60,77 @@ fn draw_all(folder: &Path) -> Result<(), Box<dyn Error>> {
 }
 
 /// The running library.
-struct Filter<'a> {
-    bundle: Bundle<'a>,
+struct Filter {
+    bundle: Bundle<'static>,
     curves: Curves,
 }
 
-impl Filter<'_> {
-    /// Runs events from a state: the selected outputs.
-    fn run(&self, state: &mut State, events: &[Event]) -> Result<Vec<f64>, Box<dyn Error>> {
+impl Filter {
+    /// Runs events from a state.
+    fn run(&self, state: &mut State, events: &[Event]) -> Result<Vec<Sample>, Box<dyn Error>> {
         let script = Script::of(events)?;
-        let mut output = vec![0; script.output_bytes()];
-        run(&self.bundle, &self.curves, state, &script, &mut output)?;
-        Ok(samples(&output).map(|sample| f64::from(sample.selected)).collect())
+        let mut output = vec![Sample::default(); script.samples()];
+        run_samples(&self.bundle, &self.curves, state, &script, &mut output)?;
+        Ok(output)
     }
 
-    /// How much stronger a sine leaves the filter than it enters it, in dB, after these writes and 30 ms. The frequency is taken to the
-    /// nearest at which some whole periods last a whole number of samples.
-    fn gain(&self, writes: &[Event], frequency: f64) -> Result<(f64, f64), Box<dyn Error>> {
+    /// Plays a sine after these writes, and keeps what comes after 30 ms. The frequency is taken to the nearest at which some whole
+    /// periods last a whole number of samples.
+    fn sine(&self, writes: &[Event], frequency: f64, swing: f64) -> Result<Sine, Box<dyn Error>> {
         const SETTLING: usize = 30_000;
         let periods = (frequency / 100.0).ceil();
         let length = (periods * RATE / frequency).round() as usize;
-        let turns: Vec<f64> = (0..length).map(|at| 2.0 * PI * ((at * periods as usize) % length) as f64 / length as f64).collect();
+        let turns: Vec<f64> = (0..length).map(|at| TAU * ((at * periods as usize) % length) as f64 / length as f64).collect();
         let mut events = writes.to_vec();
-        events.extend((0..SETTLING + length).map(|at| voice(SWING * turns[(at + length - SETTLING % length) % length].sin())));
-        let selected = self.run(&mut State::start(), &events)?;
-        let (mut across, mut along) = (0.0, 0.0);
-        for (sample, turn) in selected[SETTLING..].iter().zip(&turns) {
-            across += sample * turn.cos();
-            along += sample * turn.sin();
-        }
-        let amplitude = across.hypot(along) * 2.0 / length as f64;
-        Ok((periods * RATE / length as f64, 20.0 * (amplitude / SWING).log10()))
+        events.extend((0..SETTLING + length).map(|at| voice(swing * turns[(at + length - SETTLING % length) % length].sin())));
+        let samples = self.run(&mut State::start(), &events)?.split_off(SETTLING);
+        Ok(Sine { frequency: periods * RATE / length as f64, turns, samples })
     }
 
-    /// The gain over the frequency, from 50 Hz to 20 kHz.
+    /// How much stronger sines leave the filter than they enter it, in dB, from 50 Hz to 20 kHz.
     fn gains(&self, writes: &[Event]) -> Result<Vec<(f64, f64)>, Box<dyn Error>> {
-        const POINTS: i32 = 72;
-        (0..=POINTS).map(|i| self.gain(writes, 50.0 * 400_f64.powf(f64::from(i) / f64::from(POINTS)))).collect()
+        const POINTS: i32 = 96;
+        let gain = |point: i32| {
+            let sine = self.sine(writes, 50.0 * 400_f64.powf(f64::from(point) / f64::from(POINTS)), SWING)?;
+            Ok((sine.frequency, 20.0 * (sine.strength(|sample| sample.selected) / SWING).log10()))
+        };
+        (0..=POINTS).map(gain).collect()
+    }
+
+    /// The filter's frequency in Hz after these writes: where the low-pass and the band-pass output are equally strong. Their ratio falls
+    /// as the frequency rises, so a sine near it leads to it.
+    fn frequency(&self, writes: &[Event], near: f64) -> Result<f64, Box<dyn Error>> {
+        let mut frequency = near;
+        for _ in 0..2 {
+            let sine = self.sine(writes, frequency, QUIET)?;
+            frequency = sine.frequency * sine.strength(|sample| sample.low) / sine.strength(|sample| sample.band);
+        }
+        Ok(frequency)
+    }
+}
+
+/// Some whole periods of a sine in the settled filter: the phase that goes in and what comes out.
+struct Sine {
+    frequency: f64,
+    turns: Vec<f64>,
+    samples: Vec<Sample>,
+}
+
+impl Sine {
+    /// How far an output swings at the sine's frequency.
+    fn strength(&self, output: impl Fn(&Sample) -> f32) -> f64 {
+        let (mut across, mut along) = (0.0, 0.0);
+        for (sample, turn) in self.samples.iter().zip(&self.turns) {
+            across += f64::from(output(sample)) * turn.cos();
+            along += f64::from(output(sample)) * turn.sin();
+        }
+        across.hypot(along) * 2.0 / self.turns.len() as f64
     }
 }
 
 /// A sample of one voice in the filter that is so far from rest.
 fn voice(swing: f64) -> Event {
-    Event::Sample { input_sum: (REST + swing) as f32, source_energy: (swing * swing) as f32 }
+    Event::Sample { input_sum: (f64::from(VOICE_REST) + swing) as f32, source_energy: (swing * swing) as f32 }
 }
 
 /// Writes a cutoff as a player does, low then high.
@@ -112,10 +144,12 @@ fn settled(code: u16) -> [Event; 3] {
     [low, high, high]
 }
 
-fn hertz() -> Axis {
-    let marks =
-        [(50.0, "50"), (100.0, "100"), (200.0, "200"), (500.0, "500"), (1e3, "1k"), (2e3, "2k"), (5e3, "5k"), (1e4, "10k"), (2e4, "20k")];
-    Axis::logarithmic("frequency in Hz", 50.0, 20_000.0, &marks)
+/// The frequencies from one to 20 kHz.
+fn hertz(from: f64) -> Axis {
+    let marks = [20.0, 50.0, 100.0, 200.0, 500.0].map(|at| (at, at.to_string()));
+    let thousands = [1, 2, 5, 10, 20].map(|k| (1_000.0 * f64::from(k), format!("{k}k")));
+    let marks = marks.into_iter().chain(thousands).filter(|(at, _)| *at >= from).collect();
+    Axis { label: "frequency in Hz", from, to: 20_000.0, logarithmic: true, marks }
 }
 
 /// The 31 curves, in their three groups.
@@ -155,15 +189,55 @@ fn curves(curves: &Curves) -> String {
     picture.finish()
 }
 
+/// The filter's frequency over the cutoff code, on two scales.
+fn cutoff_in_hertz(filter: &Filter) -> Result<String, Box<dyn Error>> {
+    let mut measured: Vec<(f64, f64)> = Vec::new();
+    // Each 16th code and the one before it: the frequency jumps where many bits of the code turn.
+    for code in (0..2_048).filter(|code| code % 16 == 0 || code % 16 == 15) {
+        progress(&format!("pictures: the frequency at cutoff {code}"));
+        let mut writes = vec![Event::Routing(0x01), Event::Mode(0x2f)];
+        writes.extend(settled(code));
+        let near = measured.last().map_or(200.0, |(_, frequency)| *frequency);
+        measured.push((f64::from(code), filter.frequency(&writes, near)?));
+    }
+    progress_done();
+    let sheet: Vec<(f64, f64)> = (0..=89).map(|at| f64::from(23 * at)).map(|code| (code, 30.0 + 11_970.0 * code / 2_047.0)).collect();
+
+    let mut picture = Picture::new(
+        1080,
+        480,
+        "The cutoff code in Hz",
+        "Where the low-pass and the band-pass output are equally strong, by quiet sines run through the library. Resonance 0, displacement 0.",
+    );
+    let scales = [
+        (
+            "On a straight scale",
+            Axis::marked("frequency in Hz", 0.0, 20_000.0, &[(0.0, "0"), (5e3, "5k"), (1e4, "10k"), (1.5e4, "15k"), (2e4, "20k")]),
+        ),
+        ("On a logarithmic scale", hertz(20.0)),
+    ];
+    let (bold, plain) = (Pen::new(BLUE, 2.2, ""), Pen::new("#1a1a1a", 1.4, "5 3"));
+    for ((title, up), left) in scales.into_iter().zip([86.0, 616.0]) {
+        let across = Axis::straight("cutoff code", 0.0, 2_048.0, 256.0, 0);
+        let panel = Panel { title, left, top: 100.0, width: 420.0, height: 310.0, across, up };
+        picture.panel(&panel);
+        picture.line(&panel, &plain, &sheet);
+        picture.line(&panel, &bold, &measured);
+        picture.key(panel.left + 210.0, panel.top + 258.0, 30.0, &bold, "this filter");
+        picture.key(panel.left + 210.0, panel.top + 278.0, 30.0, &plain, "data sheet, 30 Hz to 12 kHz");
+    }
+    Ok(picture.finish())
+}
+
 /// The three modes over the frequency.
 fn response(filter: &Filter) -> Result<String, Box<dyn Error>> {
-    const CUTOFFS: [(u16, &str); 4] = [(0, BLUE), (400, GREEN), (600, ORANGE), (800, PURPLE)];
+    const CUTOFFS: [(u16, &str); 5] = [(0, BLUE), (400, GREEN), (700, ORANGE), (1_000, PURPLE), (2_047, RED)];
     const RESONANCES: [(u8, &str); 3] = [(0, "2 3"), (8, "7 4"), (15, "")];
     let mut picture = Picture::new(
         1080,
         500,
         "The filter over the frequency",
-        "Sines of a third of a voice's swing run through the library; what is selected beside what went in. Displacement 0.",
+        "Sines of a third of a voice's swing run through the library: the selected output over the input, in dB. Displacement 0.",
     );
     for (place, (title, mode)) in [("Low-pass", 0x1f), ("Band-pass", 0x2f), ("High-pass", 0x4f)].into_iter().enumerate() {
         let panel = Panel {
@@ -172,7 +246,7 @@ fn response(filter: &Filter) -> Result<String, Box<dyn Error>> {
             top: 100.0,
             width: 268.0,
             height: 290.0,
-            across: hertz(),
+            across: hertz(50.0),
             up: Axis::straight("gain in dB", -50.0, 10.0, 10.0, 0),
         };
         picture.panel(&panel);
@@ -190,9 +264,9 @@ fn response(filter: &Filter) -> Result<String, Box<dyn Error>> {
     for (place, (code, colour)) in CUTOFFS.into_iter().enumerate() {
         picture.key(130.0 + 90.0 * place as f64, 470.0, 34.0, &Pen::new(colour, 2.5, ""), &code.to_string());
     }
-    picture.note(560.0, 470.0, "resonance");
+    picture.note(660.0, 470.0, "resonance");
     for (place, (resonance, dashes)) in RESONANCES.into_iter().enumerate() {
-        picture.key(640.0 + 90.0 * place as f64, 470.0, 34.0, &Pen::new("#1a1a1a", 1.8, dashes), &resonance.to_string());
+        picture.key(740.0 + 90.0 * place as f64, 470.0, 34.0, &Pen::new("#1a1a1a", 1.8, dashes), &resonance.to_string());
     }
     Ok(picture.finish())
 }
@@ -281,7 +355,7 @@ fn heard_over_the_frequency(filter: &Filter, picture: &mut Picture) -> Result<()
         top: PLACES[1].1,
         width: 420.0,
         height: 280.0,
-        across: hertz(),
+        across: hertz(50.0),
         up: Axis::straight("gain in dB", -50.0, 10.0, 10.0, 0),
     };
     picture.panel(&panel);
@@ -317,7 +391,8 @@ fn heard_over_the_time(filter: &Filter, picture: &mut Picture) -> Result<(), Box
         up: Axis::straight("selected output", 0.1, 0.6, 0.1, 1),
     };
     picture.panel(&panel);
-    let pulse = |at: usize| voice(if at % PERIOD < PERIOD / 2 { 0.15 } else { -0.15 });
+    let swing = f64::from(VOICE_SWING);
+    let pulse = |at: usize| voice(if at % PERIOD < PERIOD / 2 { swing } else { -swing });
     let ways = [
         (false, Pen::new(ORANGE, 2.0, ""), "written once: displacement 57"),
         (true, Pen::new("#1a1a1a", 1.6, "5 3"), "high written again: displacement 0"),
@@ -331,8 +406,9 @@ fn heard_over_the_time(filter: &Filter, picture: &mut Picture) -> Result<(), Box
         let mut then = if again { settled(WRITTEN).to_vec() } else { cutoff(WRITTEN).to_vec() };
         then.extend((0..AFTER).map(pulse));
         wave.extend(filter.run(&mut state, &then)?);
+        let milliseconds = |at: usize| (at as f64 - BEFORE as f64) * 1_000.0 / RATE;
         let points: Vec<(f64, f64)> =
-            wave.iter().enumerate().step_by(16).map(|(at, level)| ((at as f64 - BEFORE as f64) * 1_000.0 / RATE, *level)).collect();
+            wave.iter().enumerate().step_by(16).map(|(at, sample)| (milliseconds(at), f64::from(sample.selected))).collect();
         picture.line(&panel, &pen, &points);
         picture.key(panel.left + 16.0, panel.top + 20.0 + 20.0 * place as f64, 30.0, &pen, text);
     }

@@ -14,8 +14,8 @@ mod show;
 mod song;
 
 use show::{bundle_bytes, grouped, progress, progress_done};
-use sid_filter::{pieces, run, samples, Bundle, Curves, State};
-use song::{Desk, Tick, BAR, BARS, RATE};
+use sid_filter::{pieces, run_samples, Bundle, Curves, Sample, State, CLOCK_HZ};
+use song::{Desk, Tick, BAR, BARS};
 use std::error::Error;
 use std::f64::consts::PI;
 use std::process::ExitCode;
@@ -50,8 +50,7 @@ fn main() -> ExitCode {
 /// Writes the file, prints what is in it, and says whether it is right: nothing clips and the silent bars are silent.
 fn render(path: &str) -> Result<bool, Box<dyn Error>> {
     let begun = Instant::now();
-    let bytes = bundle_bytes()?;
-    let bundle = Bundle::open(&bytes)?;
+    let bundle = Bundle::open(bundle_bytes()?)?;
     let curves = Curves::build(&bundle)?;
     let mut state = State::start();
     let mut coupling = None;
@@ -61,12 +60,12 @@ fn render(path: &str) -> Result<bool, Box<dyn Error>> {
         let ticks: Vec<Tick> = song::bar(bar, Desk::default()).collect();
         let mut beside = ticks.iter().filter(|tick| tick.event.is_sample()).map(|tick| tick.beside);
         for script in pieces(ticks.iter().map(|tick| tick.event)) {
-            let mut output = vec![0; script.output_bytes()];
-            run(&bundle, &curves, &mut state, &script, &mut output)?;
-            for (sample, beside) in samples(&output).zip(&mut beside) {
+            let mut output = vec![Sample::default(); script.samples()];
+            run_samples(&bundle, &curves, &mut state, &script, &mut output)?;
+            for (sample, beside) in output.iter().zip(&mut beside) {
                 let mix = f64::from(sample.selected) + f64::from(beside);
                 let coupling = coupling.get_or_insert(mix);
-                *coupling += 2.0 * PI * 16.0 / f64::from(RATE) * (mix - *coupling);
+                *coupling += 2.0 * PI * 16.0 / f64::from(CLOCK_HZ) * (mix - *coupling);
                 down.feed(mix - *coupling);
             }
         }
@@ -79,7 +78,7 @@ fn render(path: &str) -> Result<bool, Box<dyn Error>> {
     let rate = grouped(OUT_RATE as usize);
     println!("{path}: {BARS} bars, {} samples, 16 bit, mono, {rate} Hz", grouped(wave.len()));
     println!("   the filter's selected output and the voices beside it, direct voltage taken out at 16 Hz");
-    println!("   brought down from {} Hz by a sinc of {TAPS} taps under a Blackman window", grouped(RATE as usize));
+    println!("   brought down from {} Hz by a sinc of {TAPS} taps under a Blackman window", grouped(CLOCK_HZ as usize));
     println!("   peak {:.1} dB, RMS {:.1} dB of full scale, {} samples clipped", decibels(peak(&wave)), decibels(rms(&wave)), clipped);
     let mut right = clipped == 0;
     for bar in song::silent_bars() {
@@ -101,7 +100,7 @@ const TAPS: usize = 2 * SIDE + 1;
 /// An output lies `RATE_STEP / PHASES` inputs after the one before it.
 const RATE_STEP: usize = 10_263;
 const PHASES: usize = 500;
-const _: () = assert!(RATE as usize * PHASES == OUT_RATE as usize * RATE_STEP && BAR as usize * PHASES == OUT_BAR * RATE_STEP);
+const _: () = assert!(CLOCK_HZ as usize * PHASES == OUT_RATE as usize * RATE_STEP && BAR as usize * PHASES == OUT_BAR * RATE_STEP);
 
 /// Brings the chip's rate down to the file's.
 struct Down {
@@ -149,7 +148,7 @@ fn taps(after: f64) -> [f64; TAPS] {
         let distance = tap as f64 - SIDE as f64 - after;
         let turn = PI * distance / (SIDE + 1) as f64;
         let window = 0.42 + 0.5 * turn.cos() + 0.08 * (2.0 * turn).cos();
-        let x = PI * distance * f64::from(OUT_RATE) / f64::from(RATE);
+        let x = PI * distance * f64::from(OUT_RATE) / f64::from(CLOCK_HZ);
         let sinc = if x == 0.0 { 1.0 } else { x.sin() / x };
         window * sinc
     });

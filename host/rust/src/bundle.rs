@@ -1,5 +1,6 @@
 use crate::library;
 use crate::Refusal;
+use std::borrow::Cow;
 use std::fmt;
 
 /// The length of a bundle in bytes.
@@ -8,28 +9,33 @@ pub const BUNDLE_BYTES: usize = 6_127_736;
 pub const CURVES_BYTES: usize = 254_076;
 
 /// The tables of the filter: bytes that were opened, so that the header is the fixed one and every entry usable.
-#[derive(Clone, Copy)]
+///
+/// It borrows its bytes or owns them. A `Bundle<'static>` of a `Vec` can stand in a struct beside its [`Curves`], and threads can share
+/// both.
+#[derive(Clone)]
 pub struct Bundle<'a> {
-    bytes: &'a [u8],
+    bytes: Cow<'a, [u8]>,
 }
 
 impl<'a> Bundle<'a> {
-    /// Opens a bundle: looks at its length (1), its header (2) and every entry in order (3).
+    /// Opens a bundle: looks at its length (1), its header (2) and every entry in order (3). A slice is borrowed, a `Vec` becomes the
+    /// bundle's own; neither is copied.
     ///
     /// ```
     /// use sid_filter::{Bundle, Refusal};
     /// assert_eq!(Bundle::open(b"no bundle").err(), Some(Refusal::BundleLength));
     /// ```
-    pub fn open(bytes: &'a [u8]) -> Result<Bundle<'a>, Refusal> {
-        match Refusal::of(library::open(bytes)) {
+    pub fn open(bytes: impl Into<Cow<'a, [u8]>>) -> Result<Bundle<'a>, Refusal> {
+        let bytes = bytes.into();
+        match Refusal::of(library::open(&bytes)) {
             None => Ok(Bundle { bytes }),
             Some(refusal) => Err(refusal),
         }
     }
 
     /// The bytes that were opened.
-    pub fn as_bytes(&self) -> &'a [u8] {
-        self.bytes
+    pub fn as_bytes(&self) -> &[u8] {
+        &self.bytes
     }
 }
 
@@ -55,7 +61,7 @@ impl Curves {
     /// Builds the curves of a bundle. The library looks at the entries of the analogue surface again (3); an opened bundle passes.
     pub fn build(bundle: &Bundle) -> Result<Curves, Refusal> {
         let mut bytes = vec![0; CURVES_BYTES].into_boxed_slice();
-        match Refusal::of(library::build_curves(bundle.bytes, &mut bytes)) {
+        match Refusal::of(library::build_curves(bundle.as_bytes(), &mut bytes)) {
             None => Ok(Curves { bytes }),
             Some(refusal) => Err(refusal),
         }

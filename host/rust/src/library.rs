@@ -3,6 +3,8 @@
 //! The header asks three things of a caller, and the borrows below keep them. A pointer is good for its length: it is a slice's. No written
 //! buffer overlaps another one, and nothing else writes what is lent while a call runs: what is written comes as `&mut`, what is read as
 //! `&`. No call keeps a pointer, and each answers five plain words.
+use crate::{Sample, SAMPLE_BYTES};
+use std::mem::{offset_of, size_of, size_of_val};
 
 /// The header's `sid_filter_answer`.
 #[repr(C)]
@@ -63,13 +65,27 @@ pub(crate) fn run(bundle: &[u8], curves: &[u8], state: &mut [u8], script: &[u8],
     }
 }
 
+#[cfg(target_endian = "big")]
+compile_error!("the library writes little-endian numbers");
+
+// A sample lies as the library writes it: high, band, low, selected, without gaps.
+const _: () = assert!(size_of::<Sample>() == SAMPLE_BYTES);
+const _: () = assert!(offset_of!(Sample, high) == 0 && offset_of!(Sample, band) == 4);
+const _: () = assert!(offset_of!(Sample, low) == 8 && offset_of!(Sample, selected) == 12);
+
+/// Samples as the bytes that a run writes.
+pub(crate) fn bytes_of(samples: &mut [Sample]) -> &mut [u8] {
+    // SAFETY: the bytes are those of the slice, which stays borrowed. A sample is four f32 without gaps, so all its bytes have values, and
+    // any bytes are a sample.
+    unsafe { std::slice::from_raw_parts_mut(samples.as_mut_ptr().cast(), size_of_val(samples)) }
+}
+
 #[cfg(test)]
 mod tests {
     use super::Answer;
+    use crate::header::{defined, HEADER};
     use crate::{BUNDLE_BYTES, CURVES_BYTES, EVENTS_MAX, EVENT_BYTES, SAMPLE_BYTES, SCRIPT_HEADER_BYTES, STATE_BYTES};
     use std::mem::{align_of, offset_of, size_of};
-
-    const HEADER: &str = include_str!("../../../include/sid_filter.h");
 
     /// The five words lie as C lays them, in the order in which the header names them.
     #[test]
@@ -102,8 +118,13 @@ mod tests {
             ("EVENTS_MAX", EVENTS_MAX),
         ];
         for (name, ours) in lengths {
-            let theirs = HEADER.lines().find_map(|line| line.strip_prefix("#define SID_FILTER_")?.strip_prefix(name)?.trim().parse().ok());
-            assert_eq!(theirs, Some(ours), "{name}");
+            assert_eq!(defined(name).parse(), Ok(ours), "{name}");
         }
+    }
+
+    /// The version is the header's.
+    #[test]
+    fn the_version_is_that_of_the_header() {
+        assert_eq!(defined("VERSION"), concat!('"', env!("CARGO_PKG_VERSION"), '"'));
     }
 }

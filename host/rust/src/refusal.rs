@@ -10,7 +10,7 @@ pub enum Buffer {
     Curves,
 }
 
-/// Why a call turned back: the ten causes of the project's table.
+/// Why a call was refused: the ten causes that include/sid_filter.h lists. Its text is the sentence, with the place where there is one.
 #[derive(Clone, Copy, Debug, PartialEq, Eq, Hash)]
 pub enum Refusal {
     /// 1: the bundle has another length.
@@ -60,19 +60,22 @@ impl Refusal {
         }
     }
 
-    /// The cause as the table words it (6 without the word that points to the text above the table).
+    /// The cause in words, without its place: those of the program `bounce`.
     pub fn sentence(self) -> &'static str {
         match self {
-            Refusal::BundleLength => "bundle not 6,127,736 bytes",
-            Refusal::Header { .. } => "header differs",
-            Refusal::Entry { .. } => "an entry read, or on opening any, is unusable (bundle or curve)",
-            Refusal::CurvesLength => "curve buffer not 254,076 bytes",
-            Refusal::InputNotFinite => "input sum or source energy not finite",
-            Refusal::Domain => "outside the finite domain",
-            Refusal::Script => "script: length not 8 + 12 × count, or wrong offset, count, kind or zero bytes",
-            Refusal::OutputLength => "output shorter than 16 bytes a sample event",
-            Refusal::MixerInputs => "more than 7 mixer inputs",
-            Refusal::Argument => "state block invalid, or a direct argument: index past its table, float not finite (a sample's or the summer's sum and energy give 5)",
+            Refusal::BundleLength => "the bundle is not 6,127,736 bytes long",
+            Refusal::Header { .. } => "the bundle's header differs",
+            Refusal::Entry { buffer: Buffer::Bundle, .. } => "an entry of the bundle is unusable",
+            Refusal::Entry { buffer: Buffer::Curves, .. } => "an entry of the curves is unusable",
+            Refusal::CurvesLength => "the curve buffer is not 254,076 bytes long",
+            Refusal::InputNotFinite => "the input sum or the source energy is not finite",
+            Refusal::Domain => "a number would be outside the finite domain",
+            Refusal::Script => {
+                "the script's length is not 8 + 12 x count, or its offset, its count, an event's kind or its zero bytes are wrong"
+            }
+            Refusal::OutputLength => "the output is shorter than 16 bytes a sample event",
+            Refusal::MixerInputs => "there are more than 7 mixer inputs",
+            Refusal::Argument => "the state block is invalid",
         }
     }
 
@@ -92,7 +95,7 @@ impl Refusal {
         }
     }
 
-    /// What an answer says: nothing where all went.
+    /// The refusal of an answer; `None` on success, number 0.
     pub(crate) fn of(answer: Answer) -> Option<Refusal> {
         let place = answer.place;
         let buffer = if answer.buffer == 0 { Buffer::Bundle } else { Buffer::Curves };
@@ -116,11 +119,9 @@ impl Refusal {
 impl fmt::Display for Refusal {
     fn fmt(&self, f: &mut fmt::Formatter) -> fmt::Result {
         f.write_str(self.sentence())?;
-        match self {
-            Refusal::Header { place } => write!(f, ": byte {place}"),
-            Refusal::Entry { buffer: Buffer::Bundle, place } => write!(f, ": bundle, byte {place}"),
-            Refusal::Entry { buffer: Buffer::Curves, place } => write!(f, ": curves, byte {place}"),
-            _ => Ok(()),
+        match self.place() {
+            Some(place) => write!(f, ", at byte {place}"),
+            None => Ok(()),
         }
     }
 }
@@ -130,7 +131,11 @@ impl std::error::Error for Refusal {}
 #[cfg(test)]
 mod tests {
     use super::{Buffer, Refusal};
+    use crate::header::HEADER;
     use crate::library::Answer;
+
+    /// The words of the program `bounce`, as its specification has them.
+    const LINES: &str = include_str!("../../../crates/bounce_step/specs/Lines.antt");
 
     fn answer(number: u32) -> Answer {
         Answer { number, events: 0, samples: 0, buffer: 1, place: 56 }
@@ -152,7 +157,6 @@ mod tests {
     /// The numbers are those of the header.
     #[test]
     fn the_numbers_are_those_of_the_header() {
-        let header = include_str!("../../../include/sid_filter.h");
         let named = [
             ("BUNDLE_LENGTH", Refusal::BundleLength),
             ("HEADER", Refusal::Header { place: 0 }),
@@ -167,15 +171,44 @@ mod tests {
         ];
         for (name, refusal) in named {
             let line = format!("    SID_FILTER_{name} = {}", refusal.number());
-            assert!(header.lines().any(|l| l.trim_end_matches(',') == line), "{line}");
+            assert!(HEADER.lines().any(|l| l.trim_end_matches(',') == line), "{line}");
         }
     }
 
-    /// The text has the sentence, and the place after it.
+    /// The sentences are those of `bounce`, word for word, and a place is named where it names one.
+    #[test]
+    fn the_sentences_are_those_of_bounce() {
+        let (bundle, curves) = (Buffer::Bundle, Buffer::Curves);
+        let named = [
+            ("BundleLength", Refusal::BundleLength),
+            ("(Header place)", Refusal::Header { place: 7 }),
+            ("(Entry Bundle place)", Refusal::Entry { buffer: bundle, place: 7 }),
+            ("(Entry Curves place)", Refusal::Entry { buffer: curves, place: 7 }),
+            ("CurvesLength", Refusal::CurvesLength),
+            ("InputNotFinite", Refusal::InputNotFinite),
+            ("Domain", Refusal::Domain),
+            ("Script", Refusal::Script),
+            ("OutputLength", Refusal::OutputLength),
+            ("MixerInputs", Refusal::MixerInputs),
+            ("Argument", Refusal::Argument),
+        ];
+        for (name, refusal) in named {
+            let words = format!("ascii \"{}\"", refusal.sentence());
+            let says = if refusal.place().is_some() { format!("placedOf ({words}) place") } else { words };
+            let line = format!("wordsOf {name} = {says}");
+            assert!(LINES.lines().any(|theirs| theirs == line), "{line}");
+        }
+        // These and the answer of success are all that it has.
+        assert_eq!(LINES.lines().filter(|line| line.starts_with("wordsOf ") && line.contains('=')).count(), named.len() + 1);
+    }
+
+    /// The text is the sentence, and then the place as `bounce` words it.
     #[test]
     fn a_refusal_says_where() {
-        assert_eq!(Refusal::Header { place: 4 }.to_string(), "header differs: byte 4");
+        assert!(LINES.contains(r#"placedOf words place = words ++ ascii ", at byte " ++ decimalOf place"#));
+        assert_eq!(Refusal::Header { place: 4 }.to_string(), "the bundle's header differs, at byte 4");
         let entry = Refusal::Entry { buffer: Buffer::Curves, place: 8 };
-        assert_eq!(entry.to_string(), "an entry read, or on opening any, is unusable (bundle or curve): curves, byte 8");
+        assert_eq!(entry.to_string(), "an entry of the curves is unusable, at byte 8");
+        assert_eq!(Refusal::Argument.to_string(), "the state block is invalid");
     }
 }

@@ -5,7 +5,7 @@ use std::fmt;
 /// The length of a sample's output in bytes.
 pub const SAMPLE_BYTES: usize = 16;
 
-/// A run that went through.
+/// A run that did all its events.
 #[derive(Clone, Copy, Debug, PartialEq, Eq)]
 pub struct Done {
     /// The events done: all.
@@ -28,7 +28,8 @@ pub struct Stop {
 
 impl fmt::Display for Stop {
     fn fmt(&self, f: &mut fmt::Formatter) -> fmt::Result {
-        write!(f, "stopped after {} events and {} samples: {}", self.events, self.samples, self.refusal)
+        let Stop { refusal, events, samples } = self;
+        write!(f, "stopped after {events} events, {samples} samples: {}, {refusal}", refusal.number())
     }
 }
 
@@ -38,16 +39,18 @@ impl std::error::Error for Stop {
     }
 }
 
-/// What a sample gives.
-#[derive(Clone, Copy, Debug, PartialEq)]
+/// What a sample gives. [Units](crate#units) has more about the numbers.
+#[repr(C)]
+#[derive(Clone, Copy, Debug, Default, PartialEq)]
 pub struct Sample {
-    /// The high-pass output.
+    /// The high-pass output; it rests at 0.
     pub high: f32,
-    /// The band-pass output.
+    /// The band-pass output; it rests at 0.
     pub band: f32,
-    /// The low-pass output.
+    /// The low-pass output. It rests at 0 with nothing routed, and at −0.046 to −0.136 with one to four silent inputs.
     pub low: f32,
-    /// What the mode selects of the three, with its gain, around its level at rest.
+    /// The outputs that the mode selects, added up about [`MODE_REST`](crate::MODE_REST) each, band with its sign turned, with the mode's
+    /// gain. 0 with none selected.
     pub selected: f32,
 }
 
@@ -68,13 +71,23 @@ pub fn samples(output: &[u8]) -> impl ExactSizeIterator<Item = Sample> + '_ {
     })
 }
 
-/// Runs a script from and into a state, and writes 16 bytes a sample to the front of the output.
+/// Runs a script from and into a state, and writes 16 bytes a sample to the front of the output. Later bytes stay as they were.
 ///
 /// Refused before the first event are curves of another length (4), an invalid state (10), an output shorter than
 /// [`Script::output_bytes`] (8), and entries (3) or controls (6) that the state leads to; at an event a sum or energy that is not finite
 /// (5), an entry (3) and a number that would not be finite (6).
+///
+/// A call of one sample takes 190 to 215 ns. A sample takes 80 ns in blocks of 16, 75 ns in blocks of 64, and 73 ns in blocks of 1,024 or
+/// more. This is one voice, a sine in a low-pass, with the scripts built before: the best of 200 rounds of the example `cost`, in five
+/// sittings on an AMD EPYC that others used at the same time.
 pub fn run(bundle: &Bundle, curves: &Curves, state: &mut State, script: &Script, output: &mut [u8]) -> Result<Done, Stop> {
     run_bytes(bundle, curves, state, script.as_bytes(), output)
+}
+
+/// Runs a script as [`run`] does, and writes samples in place of bytes. Nothing is copied or allocated. Fewer samples than
+/// [`Script::samples`] are refused with 8.
+pub fn run_samples(bundle: &Bundle, curves: &Curves, state: &mut State, script: &Script, samples: &mut [Sample]) -> Result<Done, Stop> {
+    run(bundle, curves, state, script, library::bytes_of(samples))
 }
 
 /// Runs a script that was kept as bytes. Bytes that are no script are refused with 7, after the state and before the output.

@@ -14,15 +14,17 @@ pub enum Event {
     CutoffLow(u8),
     /// Register 22: the cutoff's upper eight bits.
     CutoffHigh(u8),
-    /// Register 23: resonance in the high nibble, routing in the low one.
+    /// Register 23: resonance in the high nibble, routing in the low one: bits 0 to 2 voices 1 to 3, bit 3 the external input.
     Routing(u8),
-    /// Register 24: mode in the high nibble, volume in the low one.
+    /// Register 24: mode in the high nibble, volume in the low one. The volume and bit 7, voice 3 off, change no sample: they act behind
+    /// the filter.
     Mode(u8),
-    /// One sample.
+    /// One sample, which is one clock of the chip.
     Sample {
-        /// The sum of the levels that are routed into the filter.
+        /// The sum of the levels of the inputs that are routed into the filter; 0 with none. A silent voice adds its
+        /// [`VOICE_REST`](crate::VOICE_REST).
         input_sum: f32,
-        /// The sum of the squares of their distances from rest.
+        /// The sum of (level − [`VOICE_REST`](crate::VOICE_REST)) squared over the same inputs.
         source_energy: f32,
     },
     /// The state becomes the starting value.

@@ -2,17 +2,18 @@
 use sid_filter::*;
 use std::sync::OnceLock;
 
-const DATA: &str = concat!(env!("CARGO_MANIFEST_DIR"), "/../../crates/vectors_surface/data/");
+const BUNDLE: &str = concat!(env!("CARGO_MANIFEST_DIR"), "/../../data/bundle.bin");
+const CURVES: &str = concat!(env!("CARGO_MANIFEST_DIR"), "/../../crates/vectors_surface/data/curves.bin");
 /// Where the surface's first entry begins in the bundle.
 const SURFACE: usize = 2_105_464;
 
 fn bytes() -> &'static [u8] {
     static BYTES: OnceLock<Vec<u8>> = OnceLock::new();
-    BYTES.get_or_init(|| data("bundle.bin"))
+    BYTES.get_or_init(|| file(BUNDLE))
 }
 
-fn data(name: &str) -> Vec<u8> {
-    std::fs::read([DATA, name].concat()).expect("a file of the repository")
+fn file(path: &str) -> Vec<u8> {
+    std::fs::read(path).expect("a file of the repository")
 }
 
 fn bundle() -> Bundle<'static> {
@@ -76,6 +77,42 @@ fn the_bundle_opens() {
     assert_eq!(bundle().as_bytes(), bytes());
 }
 
+/// What an engine holds.
+struct Engine {
+    bundle: Bundle<'static>,
+    curves: Curves,
+}
+
+fn engine() -> Engine {
+    let bundle = Bundle::open(file(BUNDLE)).expect("a whole bundle");
+    let curves = Curves::build(&bundle).expect("curves of an opened bundle");
+    Engine { bundle, curves }
+}
+
+#[test]
+fn an_engine_owns_its_bundle_and_threads_share_it() {
+    let engine = engine();
+    assert_eq!(engine.bundle.as_bytes(), bytes());
+    let script = Script::of(&song()).unwrap();
+    let play = || {
+        let mut state = State::start();
+        let mut output = vec![0xaa; script.output_bytes()];
+        let answer = run(&engine.bundle, &engine.curves, &mut state, &script, &mut output);
+        (answer, state, output)
+    };
+    let played = std::thread::scope(|scope| [scope.spawn(play), scope.spawn(play)].map(|thread| thread.join().unwrap()));
+    assert_eq!(played[0], played[1]);
+    assert_eq!(played[0], run_from(State::start(), &script));
+}
+
+#[test]
+fn a_bundle_that_borrows_its_bytes_copies_none() {
+    assert_eq!(bundle().as_bytes().as_ptr(), bytes().as_ptr());
+    let owned = file(BUNDLE);
+    let place = owned.as_ptr();
+    assert_eq!(Bundle::open(owned).unwrap().as_bytes().as_ptr(), place);
+}
+
 #[test]
 fn a_damaged_bundle_is_refused() {
     assert_eq!(Bundle::open(&[]).err(), Some(Refusal::BundleLength));
@@ -107,7 +144,7 @@ fn the_curves_are_built() {
 fn the_curves_are_those_of_the_file() {
     let entries =
         curves().as_bytes().chunks_exact(4).enumerate().flat_map(|(number, entry)| [&(number as u32).to_le_bytes()[..], entry].concat());
-    assert!(entries.eq(data("curves.bin")));
+    assert!(entries.eq(file(CURVES)));
 }
 
 #[test]
@@ -157,6 +194,111 @@ fn the_example_of_the_formats() {
     assert_eq!((stop.refusal.number(), stop.events, stop.samples), (5, 4, 0));
     assert_eq!(output, [0xaa; 20]);
     assert_eq!((&state.as_bytes()[..12], &state.as_bytes()[12..]), (&block[..12], &[0; 12][..]));
+}
+
+#[test]
+fn samples_are_the_bytes() {
+    const LATER: Sample = Sample { high: 1.0, band: 2.0, low: 3.0, selected: 4.0 };
+    let script = Script::of(&song()).unwrap();
+    let (answer, after, output) = run_from(State::start(), &script);
+    let mut state = State::start();
+    let mut written = [LATER; 13];
+    assert_eq!(run_samples(&bundle(), curves(), &mut state, &script, &mut written), answer);
+    assert_eq!(state, after);
+    assert!(samples(&output).eq(written[..10].iter().copied()));
+    assert_eq!(written[10..], [LATER; 3]);
+
+    // Bit for bit: the sign of zero counts.
+    let bits = |sample: Sample| [sample.high, sample.band, sample.low, sample.selected].map(f32::to_bits);
+    assert!(samples(&output).map(bits).eq(written[..10].iter().copied().map(bits)));
+
+    let (mut state, mut few) = (State::start(), [LATER; 9]);
+    let stop = run_samples(&bundle(), curves(), &mut state, &script, &mut few).unwrap_err();
+    assert_eq!(stop, Stop { refusal: Refusal::OutputLength, events: 0, samples: 0 });
+    assert_eq!((state, few), (State::start(), [LATER; 9]));
+}
+
+#[test]
+fn a_stopped_run_keeps_the_later_samples() {
+    let script = Script::of(&[sample(0.0, 0.0), sample(f32::NAN, 0.0), sample(0.0, 0.0)]).unwrap();
+    let mut written = [Sample { selected: 5.0, ..Sample::default() }; 3];
+    let stop = run_samples(&bundle(), curves(), &mut State::start(), &script, &mut written).unwrap_err();
+    assert_eq!((stop.refusal, stop.samples), (Refusal::InputNotFinite, 1));
+    assert_eq!(written.map(|sample| sample.selected), [0.0, 5.0, 5.0]);
+}
+
+/// Numbers without a pattern, the same in each run.
+struct Numbers(u32);
+
+impl Numbers {
+    fn next(&mut self) -> u32 {
+        self.0 = self.0.wrapping_mul(1_664_525).wrapping_add(1_013_904_223);
+        self.0 >> 8
+    }
+
+    /// From 0 to 1.
+    fn part(&mut self) -> f32 {
+        self.next() as f32 / 16_777_215.0
+    }
+
+    fn event(&mut self) -> Event {
+        let value = self.next() as u8;
+        match self.next() % 16 {
+            0 => Event::CutoffLow(value),
+            1 => Event::CutoffHigh(value),
+            2 => Event::Routing(value),
+            3 | 4 => Event::Mode(value),
+            5 if value < 16 => Event::Reset,
+            _ => sample(4.0 * self.part(), 0.1 * self.part()),
+        }
+    }
+}
+
+/// The volume and voice 3 off act behind the filter.
+#[test]
+fn volume_and_voice_3_off_change_no_sample() {
+    let mut numbers = Numbers(1);
+    let (mut changed, mut heard) = (0, 0);
+    for round in 0..200 {
+        let events: Vec<Event> = (0..200).map(|_| numbers.event()).collect();
+        let others = events.iter().map(|event| match event {
+            Event::Mode(value) => Event::Mode(value ^ (numbers.next() as u8 & 0x8f)),
+            event => *event,
+        });
+        let others: Vec<Event> = others.collect();
+        let (answer, state, output) = run_from(State::start(), &Script::of(&events).unwrap());
+        let (other_answer, other_state, other_output) = run_from(State::start(), &Script::of(&others).unwrap());
+        assert!(answer.is_ok());
+        assert_eq!(answer, other_answer, "round {round}");
+        assert!(output == other_output, "round {round}");
+        // The states differ in volume and voice 3 off alone.
+        let [block, other_block] = [state, other_state].map(|state| {
+            let mut block = *state.as_bytes();
+            (block[9], block[10]) = (block[9] & 7, 0);
+            block
+        });
+        assert_eq!(block, other_block, "round {round}");
+        changed += usize::from(state != other_state);
+        heard += samples(&output).filter(|sample| sample.selected != 0.0).count();
+    }
+    assert!(changed > 100 && heard > 10_000, "{changed} rounds with another end state, {heard} samples that are not 0");
+}
+
+/// What the section Units of the package says of rest: after 5,000 samples of silent inputs at the highest cutoff.
+#[test]
+fn the_levels_at_rest() {
+    for (routing, inputs, low) in [(0, 0, 0.0), (1, 1, -0.046), (3, 2, -0.083), (7, 3, -0.112), (15, 4, -0.136)] {
+        for mode in 0..8_u8 {
+            let mut events = vec![Event::Routing(routing), Event::Mode(mode << 4), Event::CutoffHigh(255), Event::CutoffHigh(255)];
+            events.resize(5_004, sample(inputs as f32 * VOICE_REST, 0.0));
+            let (_, _, output) = run_from(State::start(), &Script::of(&events).unwrap());
+            let rest = samples(&output).last().unwrap();
+            assert!((rest.low - low).abs() < 5e-4 && rest.band.abs() < 1e-6 && rest.high.abs() < 1e-6, "{inputs} inputs: {rest:?}");
+            if inputs == 0 || mode == 0 {
+                assert_eq!(rest.selected, MODE_REST * mode.count_ones() as f32, "mode {mode}, {inputs} inputs");
+            }
+        }
+    }
 }
 
 #[test]
@@ -314,7 +456,7 @@ fn refusal_10() {
 fn a_stop_says_what_was_done() {
     let script = Script::of(&[sample(0.0, 0.0), sample(f32::NAN, 0.0)]).unwrap();
     let stop = run_from(State::start(), &script).0.unwrap_err();
-    assert_eq!(stop.to_string(), "stopped after 1 events and 1 samples: input sum or source energy not finite");
+    assert_eq!(stop.to_string(), "stopped after 1 events, 1 samples: 5, the input sum or the source energy is not finite");
     assert!(std::error::Error::source(&stop).is_some());
 }
 

@@ -18,9 +18,9 @@ impl Axis {
         Axis { label, from, to, logarithmic: false, marks }
     }
 
-    /// A logarithmic scale with these marks.
-    pub fn logarithmic(label: &'static str, from: f64, to: f64, marks: &[(f64, &str)]) -> Axis {
-        Axis { label, from, to, logarithmic: true, marks: marks.iter().map(|(at, text)| (*at, text.to_string())).collect() }
+    /// A straight scale with these marks.
+    pub fn marked(label: &'static str, from: f64, to: f64, marks: &[(f64, &str)]) -> Axis {
+        Axis { label, from, to, logarithmic: false, marks: marks.iter().map(|(at, text)| (*at, text.to_string())).collect() }
     }
 
     /// How far along the scale a value lies, 0 to 1 inside.

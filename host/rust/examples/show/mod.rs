@@ -1,9 +1,10 @@
 //! What the examples share beside the song: the bundle's bytes, numbers with commas, the progress line.
 #![allow(dead_code)] // Each example uses some of it.
+use std::io::{stderr, IsTerminal};
 
 /// The repository's bundle.
 pub fn bundle_bytes() -> Result<Vec<u8>, String> {
-    const PATH: &str = concat!(env!("CARGO_MANIFEST_DIR"), "/../../crates/vectors_surface/data/bundle.bin");
+    const PATH: &str = concat!(env!("CARGO_MANIFEST_DIR"), "/../../data/bundle.bin");
     std::fs::read(PATH).map_err(|error| format!("{PATH}: {error}"))
 }
 
@@ -20,12 +21,17 @@ pub fn grouped(number: usize) -> String {
     text
 }
 
-/// Shows how far long work is, on standard error: a line that the next one takes the place of.
+/// Shows how far long work is, on standard error if that is a terminal: a line that the next one takes the place of.
 pub fn progress(text: &str) {
-    eprint!("\r{text:70}");
+    if stderr().is_terminal() {
+        eprint!("\r{text:70}");
+    }
 }
 
 /// Takes the progress line away.
 pub fn progress_done() {
-    eprint!("\r{:70}\r", "");
+    progress("");
+    if stderr().is_terminal() {
+        eprint!("\r");
+    }
 }

@@ -6,14 +6,12 @@
 //!
 //! Every event follows from its bar, frame and sample alone, so a bar is the same bar wherever a bounce begins.
 #![allow(dead_code)] // Each example uses some of it.
-use sid_filter::Event;
+use sid_filter::{voice_level, Event, CLOCK_HZ, MODE_REST, VOICE_REST};
 
-/// The chip's clock in Hz: samples a second.
-pub const RATE: u32 = 985_248;
 /// The bars, counted from 1.
 pub const BARS: u32 = 48;
 /// Samples a bar.
-pub const BAR: u32 = RATE / 2;
+pub const BAR: u32 = CLOCK_HZ / 2;
 /// Frames a bar, and samples a frame.
 const FRAMES: u32 = 24;
 const FRAME: u32 = BAR / FRAMES;
@@ -21,12 +19,6 @@ const FRAME: u32 = BAR / FRAMES;
 const STEP_FRAMES: u32 = 6;
 const STEP: u32 = STEP_FRAMES * FRAME;
 const STEPS: usize = 4;
-
-/// The level of a voice at rest, and how far a voice swings from it: both as the filter's summer has them, 0 to 1.
-const REST: f32 = 0.45;
-const SWING: f32 = 0.15;
-/// The level at which each output that a mode selects rests.
-const OUTPUT_REST: f32 = 0.3764;
 
 /// A part of the song.
 pub struct Part {
@@ -128,7 +120,7 @@ impl Frame {
             routing: part.routing & !desk.out,
             mode: part.mode,
             voices: [voice(0, bass(bar, frame)), voice(1, arpeggio(bar, frame)), voice(2, lead(bar, frame))],
-            rest: OUTPUT_REST * (part.mode >> 4 & 7).count_ones() as f32,
+            rest: MODE_REST * (part.mode >> 4 & 7).count_ones() as f32,
         }
     }
 
@@ -147,9 +139,10 @@ impl Frame {
     fn sample(&self, sample: u32) -> Tick {
         let (mut input_sum, mut source_energy, mut beside) = (0.0, 0.0, -self.rest);
         for (index, tone) in self.voices.iter().enumerate() {
-            let swing = tone.swing(sample);
+            let level = tone.level(sample);
+            let swing = level - VOICE_REST;
             if self.routing & 1 << index != 0 {
-                input_sum += REST + swing;
+                input_sum += level;
                 source_energy += swing * swing;
             } else {
                 beside += swing;
@@ -184,10 +177,10 @@ impl Tone {
         Tone { peak: 0.0, ..self }
     }
 
-    /// How far the voice is from rest.
-    fn swing(&self, sample: u32) -> f32 {
+    /// The level of the voice.
+    fn level(&self, sample: u32) -> f32 {
         if self.peak == 0.0 {
-            return 0.0;
+            return VOICE_REST;
         }
         let at = self.age + sample;
         let phase = at.wrapping_mul(self.increment);
@@ -197,13 +190,13 @@ impl Tone {
             Wave::Pulse { width } => [-1.0, 1.0][usize::from(phase < width)],
             Wave::Triangle => 1.0 - 2.0 * saw.abs(),
         };
-        SWING * self.peak * self.envelope(at) * wave
+        voice_level(wave, self.peak * self.envelope(at))
     }
 
     /// A plain envelope: straight up in 3 ms, straight down to six tenths over the note, straight to nothing in its last 10 ms.
     fn envelope(&self, at: u32) -> f32 {
-        let rise = at as f32 * (1.0 / (0.003 * RATE as f32));
-        let fall = (self.length - at) as f32 * (1.0 / (0.010 * RATE as f32));
+        let rise = at as f32 * (1.0 / (0.003 * CLOCK_HZ as f32));
+        let fall = (self.length - at) as f32 * (1.0 / (0.010 * CLOCK_HZ as f32));
         let body = 1.0 - 0.4 * at as f32 / self.length as f32;
         body.min(rise).min(fall)
     }
@@ -214,7 +207,7 @@ const OCTAVE_8: [f64; 12] = [4186.01, 4434.92, 4698.64, 4978.03, 5274.04, 5587.6
 
 /// The increment of a note: semitones above the C of octave 0.
 fn increment(note: u32) -> u32 {
-    let top = (OCTAVE_8[note as usize % 12] * 4_294_967_296.0 / f64::from(RATE)) as u32;
+    let top = (OCTAVE_8[note as usize % 12] * 4_294_967_296.0 / f64::from(CLOCK_HZ)) as u32;
     top >> (8 - note / 12)
 }
 
