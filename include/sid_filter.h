@@ -25,14 +25,17 @@ extern "C" {
  *
  *     SID_FILTER_VOICE_REST + (SID_FILTER_VOICE_SWING * wave + SID_FILTER_VOICE_RISE) * envelope
  *
- * with its wave from -1 to 1 and its envelope from 0 to 1: it rests at 0.451, swings by 0.150 and rises by 0.021 at full envelope. The
- * external input rests at the same level and has no envelope, so it does not rise.
+ * with its wave within -1 to 1 and its envelope within 0 to 1: it rests at 0.451, swings by 0.150 to either side and rises by 0.021 at
+ * full envelope. (The emulator's waveform DAC gives waves of -0.222 to 0.770.) The external input rests at the same level and has no
+ * envelope, so it does not rise.
  *
  * input_sum is the sum of the levels of what is routed into the filter, by bits 0 to 3 of register 23: a voice that is silent still adds
  * its rest. source_energy is the sum of (level - rest) squared over the same inputs. With nothing routed both are 0.
  *
- * high, band and low are the filter's outputs, 0 at rest. selected adds those that the mode selects, band with its sign turned, times the
- * mode's gain, each about SID_FILTER_MODE_REST: it rests at 0.3764 a selected mode bit, and is 0 with none selected.
+ * high, band and low are the filter's outputs. selected adds those that the mode selects, band with its sign turned, times the mode's
+ * gain, each about SID_FILTER_MODE_REST. With nothing routed the three rest at 0, and selected at 0.3764 a selected mode bit: 0 in mode 0.
+ * An input rests above the filter's own level, so silent inputs move the rest: with 1, 2, 3, 4 of them low rests at -0.046, -0.083,
+ * -0.112, -0.136, and selected moves with it.
  *
  * The volume and voice 3 off (register 24, bits 0 to 3 and 7) change no sample: they act behind the filter, in the mixer and the volume
  * DAC, which no call has yet. */

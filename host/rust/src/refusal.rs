@@ -135,7 +135,7 @@ mod tests {
     use crate::library::Answer;
 
     /// The words of the program `bounce`, as its specification has them.
-    const LINES: &str = include_str!("../../../crates/bounce_step/specs/Lines.antt");
+    const LINES: &str = include_str!("../../../crates/bounce_lines/specs/Lines.antt");
 
     fn answer(number: u32) -> Answer {
         Answer { number, events: 0, samples: 0, buffer: 1, place: 56 }
