@@ -1,7 +1,7 @@
 /* Prints how many bytes of stack each call takes: from the frame of the function that calls it, which is counted too, to the deepest byte
  * that is written. Each call runs on a stack of its own that was filled with a pattern. x86-64 Linux only, as the library is.
  *
- * usage: stack BUNDLE */
+ * usage: stack <BUNDLE */
 #define _GNU_SOURCE
 #include "sid_filter.h"
 
@@ -83,8 +83,8 @@ static size_t taken(void (*call)(void), uint8_t pattern)
     return (size_t)(frame - deepest);
 }
 
-/* Prints the most that a call takes, done and refused for the bundle's header: the refusal has more to look for. With two patterns, since
- * a byte may be written as it was. 1 where it answers something else. */
+/* Prints the most that a call takes: done, and refused for the bundle's header, where the check of the header takes more; each with two
+ * patterns, since a byte may be written as it was. Says whether the answers were these. */
 static int print_taken(const char *name, void (*call)(void))
 {
     size_t most = 0;
@@ -96,28 +96,22 @@ static int print_taken(const char *name, void (*call)(void))
         bundle[55] ^= wrong;
         if (answer.number != number) {
             fprintf(stderr, "stack: %s answers %lu\n", name, (unsigned long)answer.number);
-            return 1;
+            return 0;
         }
         most = bytes > most ? bytes : most;
     }
-    printf("%s: %lu bytes\n", name, (unsigned long)most);
-    return 0;
+    printf("stack of %s: %lu bytes\n", name, (unsigned long)most);
+    return 1;
 }
 
-int main(int argc, char **argv)
+int main(void)
 {
-    FILE *file = argc == 2 ? fopen(argv[1], "rb") : NULL;
-    if (file == NULL) {
-        fprintf(stderr, "usage: stack BUNDLE\n");
-        return 1;
-    }
-    size_t length = fread(bundle, 1, sizeof bundle, file);
-    fclose(file);
-    if (length != sizeof bundle) {
-        fprintf(stderr, "stack: %s: too short\n", argv[1]);
+    if (fread(bundle, 1, sizeof bundle, stdin) != sizeof bundle) {
+        fprintf(stderr, "usage: stack <BUNDLE\n");
         return 1;
     }
     write_script();
-    return print_taken("sid_filter_open", open_bundle) | print_taken("sid_filter_build_curves", build_curves) |
+    int good = print_taken("sid_filter_open", open_bundle) && print_taken("sid_filter_build_curves", build_curves) &&
         print_taken("sid_filter_run", run_script);
+    return good ? 0 : 1;
 }
