@@ -16,8 +16,8 @@ ROOT = pathlib.Path(__file__).resolve().parent.parent.parent
 CLOCK, REST, SWING, RISE = 985_248, 0.45085025, 0.15015182, 0.021486761
 # The fields of a state block: cutoff, displacement, write base, pending, resonance, routing, mode, volume, a zero byte, band, low, source energy.
 STATE = "<HhH6B3f"
-# The kinds of an event that are used here.
-CUTOFF_LOW, CUTOFF_HIGH, SAMPLE = 0, 1, 4
+# The kinds of an event.
+CUTOFF_LOW, CUTOFF_HIGH, ROUTING, MODE, SAMPLE, RESET = range(6)
 
 
 def write(kind, value):
