@@ -1,13 +1,16 @@
-/* Opens a bundle, builds its curves and runs a small script: uncut, cut into two pieces, and with a sample that is refused.
+/* Opens a bundle, builds its curves and runs a small script: uncut, cut into two pieces, with a sample that is refused, and with too short
+ * an output.
  *
  * usage: run BUNDLE */
 #include "sid_filter.h"
 
+#include <math.h>
 #include <stdio.h>
-#include <stdlib.h>
 #include <string.h>
 
-enum { EVENTS = 12, SAMPLES = 6 };
+enum { EVENTS = 12, SAMPLES = 6, EVENT = SID_FILTER_EVENT_BYTES, SAMPLE = SID_FILTER_SAMPLE_BYTES };
+
+static uint8_t bundle[SID_FILTER_BUNDLE_BYTES], curves[SID_FILTER_CURVES_BYTES];
 
 static void put_u32(uint8_t *bytes, uint32_t word)
 {
@@ -30,114 +33,106 @@ static float get_f32(const uint8_t *bytes)
     return x;
 }
 
-static void put_write(uint8_t *event, uint8_t kind, uint8_t value)
+/* The level of a voice: wave from -1 to 1, envelope from 0 to 1. */
+static float voice(float wave, float envelope)
 {
-    memset(event, 0, SID_FILTER_EVENT_BYTES);
+    return SID_FILTER_VOICE_REST + (SID_FILTER_VOICE_SWING * wave + SID_FILTER_VOICE_RISE) * envelope;
+}
+
+/* How far a level lies from rest, squared. */
+static float energy(float level)
+{
+    return (level - SID_FILTER_VOICE_REST) * (level - SID_FILTER_VOICE_REST);
+}
+
+/* Puts a register write. Answers the place of the next event, as put_sample does. */
+static uint8_t *put_write(uint8_t *event, uint8_t kind, uint8_t value)
+{
+    memset(event, 0, EVENT);
     event[0] = kind;
     event[1] = value;
+    return event + EVENT;
 }
 
-static void put_sample(uint8_t *event, float input_sum, float source_energy)
+/* Puts a sample of the levels of two voices, the two that are routed. */
+static uint8_t *put_sample(uint8_t *event, float first, float second)
 {
-    put_write(event, SID_FILTER_SAMPLE, 0);
-    put_f32(event + 4, input_sum);
-    put_f32(event + 8, source_energy);
+    uint8_t *next = put_write(event, SID_FILTER_SAMPLE, 0);
+    put_f32(event + 4, first + second);
+    put_f32(event + 8, energy(first) + energy(second));
+    return next;
 }
 
-/* A script of events that lie elsewhere: its length. */
-static size_t put_script(uint8_t *script, const uint8_t *events, uint32_t count)
+/* Voices 1 and 2 in a low-pass filter: two samples with the cutoff low, two with it high, and two in band-pass. */
+static void put_events(uint8_t *event)
 {
-    put_u32(script, count);
-    put_u32(script + 4, SID_FILTER_SCRIPT_HEADER_BYTES);
-    memcpy(script + SID_FILTER_SCRIPT_HEADER_BYTES, events, (size_t)count * SID_FILTER_EVENT_BYTES);
-    return SID_FILTER_SCRIPT_HEADER_BYTES + (size_t)count * SID_FILTER_EVENT_BYTES;
+    event = put_write(event, SID_FILTER_ROUTING, 0x83);
+    event = put_write(event, SID_FILTER_MODE, 0x1f);
+    event = put_write(event, SID_FILTER_CUTOFF_LOW, 7);
+    event = put_write(event, SID_FILTER_CUTOFF_HIGH, 32);
+    event = put_sample(event, voice(-1.0f, 1.0f), voice(0.5f, 0.25f));
+    event = put_sample(event, voice(1.0f, 1.0f), voice(0.5f, 0.25f));
+    event = put_write(event, SID_FILTER_CUTOFF_HIGH, 200);
+    event = put_sample(event, voice(-1.0f, 1.0f), voice(-0.5f, 0.5f));
+    event = put_sample(event, voice(1.0f, 1.0f), voice(-0.5f, 0.5f));
+    event = put_write(event, SID_FILTER_MODE, 0x2f);
+    event = put_sample(event, voice(-1.0f, 1.0f), voice(0.5f, 0.0f));
+    put_sample(event, voice(1.0f, 1.0f), voice(0.5f, 0.0f));
 }
 
-/* Voices 1 and 2 in a low-pass filter at full volume, two samples with the cutoff low, two with it high, and two in band-pass. */
-static void put_events(uint8_t *events)
-{
-    uint8_t *event = events;
-    put_write(event, SID_FILTER_ROUTING, 0x83), event += SID_FILTER_EVENT_BYTES;
-    put_write(event, SID_FILTER_MODE, 0x1f), event += SID_FILTER_EVENT_BYTES;
-    put_write(event, SID_FILTER_CUTOFF_LOW, 7), event += SID_FILTER_EVENT_BYTES;
-    put_write(event, SID_FILTER_CUTOFF_HIGH, 32), event += SID_FILTER_EVENT_BYTES;
-    put_sample(event, 0.75f, 0.125f), event += SID_FILTER_EVENT_BYTES;
-    put_sample(event, 1.25f, 0.125f), event += SID_FILTER_EVENT_BYTES;
-    put_write(event, SID_FILTER_CUTOFF_HIGH, 200), event += SID_FILTER_EVENT_BYTES;
-    put_sample(event, 0.75f, 0.25f), event += SID_FILTER_EVENT_BYTES;
-    put_sample(event, 1.25f, 0.25f), event += SID_FILTER_EVENT_BYTES;
-    put_write(event, SID_FILTER_MODE, 0x2f), event += SID_FILTER_EVENT_BYTES;
-    put_sample(event, 0.75f, 0.25f), event += SID_FILTER_EVENT_BYTES;
-    put_sample(event, 1.25f, 0.25f);
-}
-
-static void print_answer(const char *call, sid_filter_answer answer)
+/* Prints an answer, and whether its number is the one that is expected. */
+static int print_answer(const char *call, sid_filter_answer answer, uint32_t number)
 {
     printf("%s: number %lu, events %lu, samples %lu, buffer %lu, place %lu\n", call, (unsigned long)answer.number,
         (unsigned long)answer.events, (unsigned long)answer.samples, (unsigned long)answer.buffer, (unsigned long)answer.place);
+    return answer.number == number;
 }
 
-static uint8_t *load(const char *path, size_t length)
+/* Runs a script of some events, with room for some samples. */
+static sid_filter_answer run(uint8_t *state, const uint8_t *events, uint32_t count, uint8_t *output, size_t samples)
 {
-    FILE *file = fopen(path, "rb");
-    uint8_t *bytes = malloc(length);
-    if (file == NULL || bytes == NULL || fread(bytes, 1, length, file) != length) {
-        fprintf(stderr, "run: %s: not %lu bytes\n", path, (unsigned long)length);
-        exit(1);
-    }
-    fclose(file);
-    return bytes;
+    uint8_t script[SID_FILTER_SCRIPT_HEADER_BYTES + EVENTS * EVENT];
+    put_u32(script, count);
+    put_u32(script + 4, SID_FILTER_SCRIPT_HEADER_BYTES);
+    memcpy(script + SID_FILTER_SCRIPT_HEADER_BYTES, events, (size_t)count * EVENT);
+    return sid_filter_run(bundle, sizeof bundle, curves, sizeof curves, state, SID_FILTER_STATE_BYTES, script,
+        SID_FILTER_SCRIPT_HEADER_BYTES + (size_t)count * EVENT, output, samples * SAMPLE);
 }
 
 int main(int argc, char **argv)
 {
-    if (argc != 2) {
+    FILE *file = argc == 2 ? fopen(argv[1], "rb") : NULL;
+    if (file == NULL) {
         fprintf(stderr, "usage: run BUNDLE\n");
         return 1;
     }
-    const size_t bundle_len = SID_FILTER_BUNDLE_BYTES, curves_len = SID_FILTER_CURVES_BYTES;
-    uint8_t *bundle = load(argv[1], bundle_len);
-    uint8_t *curves = malloc(curves_len);
-    if (curves == NULL)
+    size_t length = fread(bundle, 1, sizeof bundle, file);
+    fclose(file);
+    printf("sid_filter %s\n", SID_FILTER_VERSION);
+    if (!print_answer("open", sid_filter_open(bundle, length), SID_FILTER_DONE))
         return 1;
-    print_answer("open", sid_filter_open(bundle, bundle_len));
-    print_answer("build", sid_filter_build_curves(bundle, bundle_len, curves, curves_len));
+    int good = print_answer("build", sid_filter_build_curves(bundle, sizeof bundle, curves, sizeof curves), SID_FILTER_DONE);
 
-    uint8_t events[EVENTS * SID_FILTER_EVENT_BYTES], script[SID_FILTER_SCRIPT_HEADER_BYTES + sizeof events];
-    uint8_t state[SID_FILTER_STATE_BYTES] = { 0 }, output[SAMPLES * SID_FILTER_SAMPLE_BYTES];
+    uint8_t events[EVENTS * EVENT], state[SID_FILTER_STATE_BYTES] = { 0 }, output[SAMPLES * SAMPLE];
     put_events(events);
-    size_t length = put_script(script, events, EVENTS);
-    sid_filter_answer answer =
-        sid_filter_run(bundle, bundle_len, curves, curves_len, state, sizeof state, script, length, output, sizeof output);
-    print_answer("run", answer);
-    for (uint32_t i = 0; i < answer.samples; i++) {
-        const uint8_t *sample = output + i * SID_FILTER_SAMPLE_BYTES;
+    good &= print_answer("run", run(state, events, EVENTS, output, SAMPLES), SID_FILTER_DONE);
+    for (const uint8_t *sample = output; sample < output + sizeof output; sample += SAMPLE)
         printf("  high % .7f  band % .7f  low % .7f  selected % .7f\n", get_f32(sample), get_f32(sample + 4), get_f32(sample + 8),
             get_f32(sample + 12));
-    }
 
     /* The same in two pieces, cut after the low write: the second goes on from the state that the first left. */
-    uint8_t other_state[SID_FILTER_STATE_BYTES] = { 0 }, other_output[sizeof output];
-    length = put_script(script, events, 3);
-    print_answer("first piece", sid_filter_run(bundle, bundle_len, curves, curves_len, other_state, sizeof other_state, script, length,
-        other_output, sizeof other_output));
-    length = put_script(script, events + 3 * SID_FILTER_EVENT_BYTES, EVENTS - 3);
-    print_answer("second piece", sid_filter_run(bundle, bundle_len, curves, curves_len, other_state, sizeof other_state, script, length,
-        other_output, sizeof other_output));
+    uint8_t other_state[SID_FILTER_STATE_BYTES] = { 0 }, other_output[SAMPLES * SAMPLE];
+    good &= print_answer("first piece", run(other_state, events, 3, other_output, SAMPLES), SID_FILTER_DONE);
+    good &= print_answer("second piece", run(other_state, events + 3 * EVENT, EVENTS - 3, other_output, SAMPLES), SID_FILTER_DONE);
     int same = memcmp(state, other_state, sizeof state) == 0 && memcmp(output, other_output, sizeof output) == 0;
     printf("  %s\n", same ? "the same samples and state" : "DIFFERS");
 
     /* An infinite sum in the fourth sample: the run stops there, with three samples written. */
     memset(other_state, 0, sizeof other_state);
-    put_f32(events + 8 * SID_FILTER_EVENT_BYTES + 4, 1.0e38f * 10.0f);
-    length = put_script(script, events, EVENTS);
-    print_answer("an infinite sum", sid_filter_run(bundle, bundle_len, curves, curves_len, other_state, sizeof other_state, script, length,
-        other_output, sizeof other_output));
+    put_f32(events + 8 * EVENT + 4, INFINITY);
+    good &= print_answer("an infinite sum", run(other_state, events, EVENTS, other_output, SAMPLES), SID_FILTER_INPUT_NOT_FINITE);
 
-    /* Room for five samples only. */
-    print_answer("a short output", sid_filter_run(bundle, bundle_len, curves, curves_len, other_state, sizeof other_state, script, length,
-        other_output, sizeof other_output - SID_FILTER_SAMPLE_BYTES));
-    free(curves);
-    free(bundle);
-    return same ? 0 : 1;
+    /* Room for five samples only: nothing is run. */
+    good &= print_answer("a short output", run(other_state, events, EVENTS, other_output, SAMPLES - 1), SID_FILTER_OUTPUT_LENGTH);
+    return good && same ? 0 : 1;
 }
