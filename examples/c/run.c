@@ -33,7 +33,7 @@ static float get_f32(const uint8_t *bytes)
     return x;
 }
 
-/* The level of a voice: wave from -1 to 1, envelope from 0 to 1. */
+/* The level of a voice, by the units of the header. The waves below are of the chip's DAC, -0.222 to 0.770. */
 static float voice(float wave, float envelope)
 {
     return SID_FILTER_VOICE_REST + (SID_FILTER_VOICE_SWING * wave + SID_FILTER_VOICE_RISE) * envelope;
@@ -70,14 +70,14 @@ static void put_events(uint8_t *event)
     event = put_write(event, SID_FILTER_MODE, 0x1f);
     event = put_write(event, SID_FILTER_CUTOFF_LOW, 7);
     event = put_write(event, SID_FILTER_CUTOFF_HIGH, 32);
-    event = put_sample(event, voice(-1.0f, 1.0f), voice(0.5f, 0.25f));
-    event = put_sample(event, voice(1.0f, 1.0f), voice(0.5f, 0.25f));
+    event = put_sample(event, voice(-0.2f, 1.0f), voice(0.5f, 0.25f));
+    event = put_sample(event, voice(0.75f, 1.0f), voice(0.5f, 0.25f));
     event = put_write(event, SID_FILTER_CUTOFF_HIGH, 200);
-    event = put_sample(event, voice(-1.0f, 1.0f), voice(-0.5f, 0.5f));
-    event = put_sample(event, voice(1.0f, 1.0f), voice(-0.5f, 0.5f));
+    event = put_sample(event, voice(-0.2f, 1.0f), voice(-0.1f, 0.5f));
+    event = put_sample(event, voice(0.75f, 1.0f), voice(-0.1f, 0.5f));
     event = put_write(event, SID_FILTER_MODE, 0x2f);
-    event = put_sample(event, voice(-1.0f, 1.0f), voice(0.5f, 0.0f));
-    put_sample(event, voice(1.0f, 1.0f), voice(0.5f, 0.0f));
+    event = put_sample(event, voice(-0.2f, 1.0f), voice(0.5f, 0.0f));
+    put_sample(event, voice(0.75f, 1.0f), voice(0.5f, 0.0f));
 }
 
 /* Prints an answer, and whether its number is the one that is expected. */
@@ -103,7 +103,7 @@ int main(int argc, char **argv)
 {
     FILE *file = argc == 2 ? fopen(argv[1], "rb") : NULL;
     if (file == NULL) {
-        fprintf(stderr, "usage: run BUNDLE\n");
+        fprintf(stderr, "usage: run BUNDLE, a file that can be read\n");
         return 1;
     }
     size_t length = fread(bundle, 1, sizeof bundle, file);
