@@ -1,9 +1,10 @@
-/* The filter of the MOS 6581: bytes in, bytes out. Numbers in the bytes are little-endian, and an f32 is its IEEE 754 bits. docs/FORMATS.md
- * has every buffer byte by byte.
+/* The filter of the MOS 6581: bytes in, bytes out. Numbers in the bytes are little-endian, and an f32 is its IEEE 754 bits. In the
+ * repository docs/FORMATS.md has every buffer byte by byte, docs/ENGINE.md what an engine asks.
  *
  * A buffer is a pointer and its length in bytes; it needs no alignment. Building writes `curves`; a run writes `state` and `output`. All
  * else is only read. A written buffer must not overlap another one, and while a call runs nothing else may write what is lent to it.
- * Every call answers by value. None keeps a pointer, allocates, locks or has static data. docs/ENGINE.md says what an engine asks next. */
+ * Every call answers by value. None keeps a pointer, allocates, locks or has static data. The thread's float mode must be the usual one:
+ * round to nearest even, no flush to zero. */
 #ifndef SID_FILTER_H
 #define SID_FILTER_H
 
@@ -94,12 +95,12 @@ enum {
  * (f32, byte 8). Kinds 0 to 3 use the value, which is what is written to the register; a sample uses the two floats; what a kind does not
  * use is ignored. */
 enum {
-    SID_FILTER_CUTOFF_LOW = 0,  /* register 21 */
-    SID_FILTER_CUTOFF_HIGH = 1, /* register 22 */
-    SID_FILTER_ROUTING = 2,     /* register 23: resonance and routing */
-    SID_FILTER_MODE = 3,        /* register 24: mode and volume */
-    SID_FILTER_SAMPLE = 4,
-    SID_FILTER_RESET = 5
+    SID_FILTER_CUTOFF_LOW = 0,  /* register 21: bits 0 to 2 are the cutoff's bits 0 to 2 */
+    SID_FILTER_CUTOFF_HIGH = 1, /* register 22: the cutoff's bits 3 to 10 */
+    SID_FILTER_ROUTING = 2,     /* register 23: bits 0 to 2 route voices 1 to 3, bit 3 the external input; bits 4 to 7 the resonance */
+    SID_FILTER_MODE = 3,        /* register 24: bits 4, 5, 6 select low, band, high, bit 7 is voice 3 off; bits 0 to 3 the volume */
+    SID_FILTER_SAMPLE = 4,      /* one clock of the chip */
+    SID_FILTER_RESET = 5        /* the state becomes the starting value */
 };
 
 /* Opens a bundle: its length (1), its header (2), then every entry in order (3). */
