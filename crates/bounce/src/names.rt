@@ -3,13 +3,23 @@ use libc::STDOUT_FILENO;
 
 // Whether OUTPUT, STATE and STATE.new have names of their own.
 pub(crate) fn are_apart() -> bool {
-    let mut output = io::buffer();
-    let n = os::arg(3, &mut output);
+    !(is_argument_taken(3) || is_argument_taken(2) || is_beside_taken())
+}
+
+// Whether another argument has an argument's name.
+fn is_argument_taken(own: usize) -> bool {
+    let mut path = io::buffer();
+    let n = os::arg(own, &mut path);
+    is_taken(&path[..n], own)
+}
+
+// Whether an argument has the name STATE.new.
+fn is_beside_taken() -> bool {
     let mut state = io::buffer();
-    let m = os::arg(2, &mut state);
+    let n = os::arg(2, &mut state);
     let mut beside = [0u8; 4608];
-    let k = bounce_lines::beside(&mut beside, &state[..m]);
-    !(is_taken(&output[..n], 3) || is_taken(&state[..m], 2) || is_taken(&beside[..k], 0))
+    let m = bounce_lines::beside(&mut beside, &state[..n]);
+    is_taken(&beside[..m], 0)
 }
 
 // Whether an argument other than its own has a name. Where one has, it says so.
