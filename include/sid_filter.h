@@ -27,7 +27,7 @@ extern "C" {
  *     SID_FILTER_VOICE_REST + (SID_FILTER_VOICE_SWING * wave + SID_FILTER_VOICE_RISE) * envelope
  *
  * with its wave within -1 to 1 and its envelope within 0 to 1: it rests at 0.451, swings by 0.150 to either side and rises by 0.021 at
- * full envelope. (The emulator's waveform DAC gives waves of -0.222 to 0.770.) The external input rests at the same level and has no
+ * full envelope. (The emulator's table of the waveform DAC goes from -0.222 to 0.770.) The external input rests at the same level and has no
  * envelope, so it does not rise.
  *
  * input_sum is the sum of the levels of what is routed into the filter, by bits 0 to 3 of register 23: a voice that is silent still adds

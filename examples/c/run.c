@@ -33,7 +33,7 @@ static float get_f32(const uint8_t *bytes)
     return x;
 }
 
-/* The level of a voice, by the units of the header. The waves below are of the chip's DAC, -0.222 to 0.770. */
+/* The level of a voice, by the units of the header. The waves below are those of a waveform DAC, -0.222 to 0.770. */
 static float voice(float wave, float envelope)
 {
     return SID_FILTER_VOICE_REST + (SID_FILTER_VOICE_SWING * wave + SID_FILTER_VOICE_RISE) * envelope;

@@ -41,8 +41,8 @@
 //!
 //! **Levels.** A level is a voltage of the chip, 0 to 1: level = (volts − 0.8228) / 9.5895, and no level is below 0 or above 1.
 //! [`voice_level`] gives the level of a voice from its wave, −1 to 1, and its envelope, 0 to 1. A voice rests at [`VOICE_REST`], 0.451;
-//! at full envelope it swings by [`VOICE_SWING`], 0.150, to either side and rises by [`VOICE_RISE`], 0.021. (The emulator's waveform DAC
-//! gives waves of −0.222 to 0.770.) The external input rests at the same level and has no envelope, so it does not rise.
+//! at full envelope it swings by [`VOICE_SWING`], 0.150, to either side and rises by [`VOICE_RISE`], 0.021. (The emulator's table of the
+//! waveform DAC goes from −0.222 to 0.770.) The external input rests at the same level and has no envelope, so it does not rise.
 //!
 //! **In.** `input_sum` is the sum of the levels of what is routed into the filter, by bits 0 to 3 of [`Event::Routing`]: a voice that is
 //! silent still adds its rest. `source_energy` is the sum of (level − [`VOICE_REST`])² over the same inputs. With nothing routed both
