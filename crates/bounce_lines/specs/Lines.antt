@@ -1,4 +1,4 @@
--- What `bounce` says: each answer in words, and the line of a script.
+-- What `bounce` says: each answer in words, the line of a refused file, and the line of a script.
 use Prim.Native.Nat.{ℕ}
 use mathlib.Core.Bool.{cond}
 use mathlib.Core.List.{List, _++_}
