@@ -16,7 +16,7 @@ extern "C" {
 #endif
 
 /* The version of this library; CHANGELOG.md says what each one changed. */
-#define SID_FILTER_VERSION "0.2.0"
+#define SID_FILTER_VERSION "0.3.0"
 
 /* Units.
  *
@@ -76,8 +76,7 @@ enum {
     SID_FILTER_SCRIPT = 7,
     /* The output is shorter than 16 bytes for each sample event. */
     SID_FILTER_OUTPUT_LENGTH = 8,
-    /* There are more than 7 mixer inputs. */
-    SID_FILTER_MIXER_INPUTS = 9,
+    /* 9 is unused, and stays so. */
     /* The state block is invalid, an index is past its table, or a direct argument is not finite. */
     SID_FILTER_ARGUMENT = 10
 };
@@ -126,7 +125,6 @@ sid_filter_answer sid_filter_build_curves(const uint8_t *bundle, size_t bundle_l
  *   6  a control is not finite
  * and then event by event
  *   5  a sample's input sum or source energy is not finite
- *   9  more than 7 mixer inputs; no routing and mode have so many
  *   3  an entry that the event reads is unusable: buffer and place
  *   6  a control, a number of the state or an output would not be finite
  *

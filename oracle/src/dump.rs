@@ -383,12 +383,13 @@ fn constants(coefficients: &FilterCoefficients) -> Vec<[u32; 5]> {
 
 // ---- Answers
 
-/// The table of refusals: number, buffer and place of two answers, then those of the first that refuses, with what its row names.
+/// The table of refusals, in which 9 is unused: number, buffer and place of two answers, then those of the first that refuses, with what its row names.
 fn answers() -> Vec<[u32; 9]> {
     let mut random = Random::of("answers");
+    let numbers = || (0..=10).filter(|&number| number != 9);
     let mut pairs = vec![];
-    for first in 0..=10 {
-        for second in 0..=10 {
+    for first in numbers() {
+        for second in numbers() {
             let mut answer = |number| [number, random.below(2), 4 * random.below(1 << 21)];
             let (first, second) = (answer(first), answer(second));
             let [number, buffer, place] = if first[0] == 0 { second } else { first };

@@ -364,7 +364,7 @@ fn is_whole(t: &MixingTopology, c: &ControlCache) -> bool {
     ];
     let finite = tables.as_flattened().iter().chain(&numbers).all(|x| x.is_finite());
     let indexed = c.effective_cutoff_index <= 2047 && c.resonance_index <= 15;
-    finite && indexed && t.filter_input_count <= 4 && t.filter_output_count <= 3
+    finite && indexed && t.filter_input_count <= 4 && t.filter_output_count <= 3 && t.mixer_input_count <= 7
 }
 
 fn is_valid(r: &FilterRegisters, s: &IntegratorState) -> bool {
@@ -383,11 +383,11 @@ fn refused_before(filter: &mut Filter, bundle: &[u8], curves: &[u8]) -> Option<T
         .or_else(|| unless(is_valid(registers, state) && is_whole(topology, control), 10))
 }
 
-/// What a sample is refused with before it is taken: 5, 9, 3.
+/// What a sample is refused with before it is taken: 5, 3.
 fn sample_refused(filter: &mut Filter, bundle: &[u8], curves: &[u8], event: Event) -> Option<Told> {
     let (_, state, topology, _) = filter.parts();
     let idle = is_idle(topology, state);
-    unless(event.sum.is_finite() && event.energy.is_finite(), 5).or_else(|| unless(topology.mixer_input_count <= 7, 9)).or_else(|| {
+    unless(event.sum.is_finite() && event.energy.is_finite(), 5).or_else(|| {
         let (curve, resting) = sample_places(filter, event);
         let read = || entries_refused(curves, 1, &curve).or_else(|| entries_refused(bundle, 0, &resting));
         (!idle).then(read).flatten()
@@ -684,7 +684,8 @@ fn distort(filter: &mut Filter, random: &mut Random) {
         12 => t.filter_input_count = (bits >> 32) as usize % 5,
         13 => t.filter_output_count = count - 1,
         14 => t.filter_output_count = (bits >> 32) as usize % 4,
-        15 | 16 => t.mixer_input_count = count + 3,
+        15 => t.mixer_input_count = count + 3,
+        16 => t.mixer_input_count = (bits >> 32) as usize % 8,
         17 => t.bypass_input_count = count,
         18 => t.filter_input_reciprocal = odd,
         19 => t.summer_input_reciprocal = odd,
@@ -789,15 +790,15 @@ fn handed_in(lent: &mut Lent) -> Reached {
 }
 
 /// The order of the causes that an event on a core may have (docs/FORMATS.md).
-const ORDER: [u32; 8] = [1, 2, 4, 10, 5, 9, 3, 6];
+const ORDER: [u32; 7] = [1, 2, 4, 10, 5, 3, 6];
 
-/// Every set of causes, on every kind of event: the first cause that the kind looks for is answered. A write or a reset has no look at sum, energy,
-/// the mixer's count and what a sample reads.
+/// Every set of causes, on every kind of event: the first cause that the kind looks for is answered. A write or a reset has no look at sum, energy
+/// and what a sample reads.
 fn causes(lent: &mut Lent) -> Reached {
     let (mut reached, mut random) = (Reached::default(), Random(44));
     let Lent { bundle, curves, filter } = lent;
-    for turn in 0..256 * 6 * 20 {
-        let (set, kind, bits) = (turn % 256, (turn / 256 % 6) as u8, random.bits());
+    for turn in 0..128 * 6 * 40 {
+        let (set, kind, bits) = (turn % 128, (turn / 128 % 6) as u8, random.bits());
         let has = |cause: u32| ORDER.iter().zip(0..).any(|(&number, bit)| number == cause && set >> bit & 1 == 1);
         let looks_for: &[u32] = if kind == 4 { &ORDER } else { &[1, 2, 4, 10, 3] };
         put(filter, &valid_block(&mut random));
@@ -817,14 +818,14 @@ fn causes(lent: &mut Lent) -> Reached {
         put_back(filter, before);
         let place = if kind == 4 { sample_places(filter, event).0[0] } else { place };
         let (_, _, topology, control) = filter.parts();
-        if has(9) {
-            topology.mixer_input_count = 8;
-        }
-        match if has(10) { bits >> 16 & 3 } else { 4 } {
+        match if has(10) { bits >> 16 & 7 } else { 8 } {
             1 => topology.filter_input_count = 5,
-            2 => topology.summer_input_reciprocal = f32::NAN,
-            3 => control.damping = f32::NAN,
-            4 => {}
+            2 => topology.filter_output_count = 4,
+            3 => topology.mixer_input_count = 8,
+            4 => topology.mixer_input_count = usize::MAX,
+            5 => topology.summer_input_reciprocal = f32::NAN,
+            6 => control.damping = f32::NAN,
+            8 => {}
             _ => filter.registers().cutoff = 2048,
         }
         let spoilt = if kind == 4 { &mut *curves } else { &mut *bundle };
@@ -850,12 +851,7 @@ fn causes(lent: &mut Lent) -> Reached {
             None => DONE,
         };
         if told == DONE {
-            // A cutoff write leaves the topology that was handed in.
-            let handed = *filter.topology();
             put_back(filter, after);
-            if has(9) && kind < 2 {
-                *filter.topology() = handed;
-            }
         }
         same_given(&mut reached, event, &ours, filter, told, if told == DONE { outputs } else { [0.0; 4] });
     }

@@ -222,9 +222,6 @@ impl<'a> Machine<'a> {
         if !(sum.is_finite() && energy.is_finite()) {
             return Err(number(5));
         }
-        if topology.mixer_input_count > 7 {
-            return Err(number(9));
-        }
         let controls = self.controls(registers)?;
         let [band_state, low_state, tracked] = state.floats;
         let count = topology.filter_input_count;

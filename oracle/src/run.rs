@@ -187,7 +187,7 @@ impl Beside {
         }
     }
 
-    /// Bundle and curves are as they were, and every number but 9 was reached: no topology has more than 7 mixer inputs.
+    /// Bundle and curves are as they were, and every number but 9, which is unused, was reached.
     fn ended(&self) -> Tally {
         let mut tally = Tally::default();
         tally.same(&self.bundle, &data("bundle"));

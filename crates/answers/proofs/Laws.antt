@@ -2,7 +2,7 @@
 use mathlib.Core.Path.{_≡_, refl, sym, ap}
 use mathlib.Core.Bool.{Bool, true, false, cond}
 use Rattle.answers.specs.declared.Answer.{Answer}
-use Rattle.answers.specs.declared.Answer.the-variants.{Done, BundleLength, Header, Entry, CurvesLength, InputNotFinite, Domain, Script, OutputLength, MixerInputs, Argument}
+use Rattle.answers.specs.declared.Answer.the-variants.{Done, BundleLength, Header, Entry, CurvesLength, InputNotFinite, Domain, Script, OutputLength, Argument}
 use Rattle.answers.specs.Answers.{isDoneOf, firstOf, unlessOf}
 
 -- Only `Done` is done.
@@ -16,7 +16,6 @@ done-is InputNotFinite h = cc
 done-is Domain h = cc
 done-is Script h = cc
 done-is OutputLength h = cc
-done-is MixerInputs h = cc
 done-is Argument h = cc
 
 -- The first of two is done where both are.

@@ -5,7 +5,7 @@ use lib.Dec.{eqb}
 use Rattle.answers.specs.declared.Buffer.{Buffer}
 use Rattle.answers.specs.declared.Buffer.the-variants.{Bundle, Curves}
 use Rattle.answers.specs.declared.Answer.{Answer}
-use Rattle.answers.specs.declared.Answer.the-variants.{Done, BundleLength, Header, Entry, CurvesLength, InputNotFinite, Domain, Script, OutputLength, MixerInputs, Argument}
+use Rattle.answers.specs.declared.Answer.the-variants.{Done, BundleLength, Header, Entry, CurvesLength, InputNotFinite, Domain, Script, OutputLength, Argument}
 use Rattle.answers.specs.declared.Reported.{Reported}
 
 -- A number alone.
@@ -16,7 +16,7 @@ abbrev pub bufferNumberOf : Buffer → ℕ
 bufferNumberOf Bundle = 0
 bufferNumberOf Curves = 1
 
--- The rows of the table.
+-- The rows of the table. 9 is unused for good.
 abbrev pub reportOf : Answer → Reported
 reportOf Done = aloneOf 0
 reportOf BundleLength = aloneOf 1
@@ -27,7 +27,6 @@ reportOf InputNotFinite = aloneOf 5
 reportOf Domain = aloneOf 6
 reportOf Script = aloneOf 7
 reportOf OutputLength = aloneOf 8
-reportOf MixerInputs = aloneOf 9
 reportOf Argument = aloneOf 10
 
 abbrev pub numberOf : Answer → ℕ

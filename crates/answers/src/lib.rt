@@ -27,8 +27,6 @@ pub enum Answer {
     Script,
     // The output is shorter than 16 bytes for each sample event. Everything is left as it was.
     OutputLength,
-    // There are more than 7 mixer inputs. The state is left as it was.
-    MixerInputs,
     // The state block is invalid, an index is past its table, or a direct argument is not finite. Everything is left as it was.
     Argument,
 }
@@ -57,7 +55,6 @@ fn number(a: Answer) -> u32
         Answer::Domain => 6,
         Answer::Script => 7,
         Answer::OutputLength => 8,
-        Answer::MixerInputs => 9,
         Answer::Argument => 10,
     }
 }
@@ -84,7 +81,6 @@ fn buffer_of(a: Answer) -> u32
         Answer::Domain => 0,
         Answer::Script => 0,
         Answer::OutputLength => 0,
-        Answer::MixerInputs => 0,
         Answer::Argument => 0,
     }
 }
@@ -102,7 +98,6 @@ fn place_of(a: Answer) -> u32
         Answer::Domain => 0,
         Answer::Script => 0,
         Answer::OutputLength => 0,
-        Answer::MixerInputs => 0,
         Answer::Argument => 0,
     }
 }

@@ -54,7 +54,6 @@ fn push_words(out: &mut [u8], at: usize, answer: Answer) -> usize
             at,
             b"the output is shorter than 16 bytes a sample event",
         ),
-        Answer::MixerInputs => push(out, at, b"there are more than 7 mixer inputs"),
         Answer::Argument => push(out, at, b"the state block is invalid"),
     }
 }

@@ -1,4 +1,4 @@
--- What the direct calls answer, each in the order of the table in docs/FORMATS.md: 1, 2, 4, 10, 5, 9, 3, 6 for what it takes.
+-- What the direct calls answer, each in the order of the table in docs/FORMATS.md: 1, 2, 4, 10, 5, 3, 6 for what it takes.
 use Prim.Native.Nat.{ℕ, _%_}
 use mathlib.Core.Bool.{Bool, false, _&&_, cond}
 use mathlib.Core.List.{List, [], _∷_}
@@ -7,7 +7,7 @@ use lib.Ieee.{Float}
 use lib.Ieee.Scale.{finite}
 use Rattle.answers.specs.declared.Buffer.the-variants.{Bundle, Curves}
 use Rattle.answers.specs.declared.Answer.{Answer}
-use Rattle.answers.specs.declared.Answer.the-variants.{InputNotFinite, Domain, MixerInputs, Argument}
+use Rattle.answers.specs.declared.Answer.the-variants.{InputNotFinite, Domain, Argument}
 use Rattle.answers.specs.Answers.{isDoneOf, firstOf, unlessOf}
 use Rattle.floats.specs.Arithmetic.{f32}
 use Rattle.integrator.specs.declared.IntegratorState.{IntegratorState}
@@ -85,13 +85,12 @@ summerAnswerOf bundle curves t sum =
 unfoldable pub summerTransferCallOf : List ℕ → List ℕ → MixingTopology → Float → Valued
 summerTransferCallOf bundle curves t sum = judgedValueOf (summerAnswerOf bundle curves t sum) (summerTransferOf bundle curves (summerSlotOf t) t sum)
 
--- `mixer_transfer`: 4, 10, 9, 3, 6
+-- `mixer_transfer`: 4, 10, 3, 6. A count above 7 is a 10 of `judgeMixerOf`.
 unfoldable pub mixerAnswerOf : List ℕ → MixingTopology → Float → Answer
 mixerAnswerOf curves t sum =
     firstOf (judgeLengthOf curves)
     (firstOf (unlessOf (finite (t .«mixer_input_reciprocal») && finite sum) Argument)
-    (firstOf (unlessOf (leb (t .«mixer_input_count») 7) MixerInputs)
-    (judgeMixerOf curves (mixerSlotOf (t .«mixer_input_count»)) t sum)))
+    (judgeMixerOf curves (mixerSlotOf (t .«mixer_input_count»)) t sum))
 
 unfoldable pub mixerTransferCallOf : List ℕ → MixingTopology → Float → Valued
 mixerTransferCallOf curves t sum = judgedValueOf (mixerAnswerOf curves t sum) (mixerTransferOf curves (mixerSlotOf (t .«mixer_input_count»)) t sum)

@@ -128,7 +128,7 @@ pub fn summer_transfer(
     judged_value(answers::first(bundle::check(bundle), long), value)
 }
 
-// The mixer's output for the sum of its inputs. Refuses 4, 10, 9, 3, 6.
+// The mixer's output for the sum of its inputs. Refuses 4, 10, 3, 6.
 pub fn mixer_transfer(curves: &[u8], topology: MixingTopology, input_sum: f32) -> Valued
     ensures { λ r. ⌜ r ≡ C.mixerTransferCallOf (now (curves .entry)) topology «input_sum» ⌝ }
 {
@@ -136,9 +136,8 @@ pub fn mixer_transfer(curves: &[u8], topology: MixingTopology, input_sum: f32) -
     let value = transfers::mixer_transfer(curves, slot, topology, input_sum);
     let finite = floats::is_finite(topology.mixer_input_reciprocal) & floats::is_finite(input_sum);
     let argument = answers::unless(finite, Answer::Argument);
-    let count = answers::unless(topology.mixer_input_count <= 7, Answer::MixerInputs);
     let entries = transfers::judge_mixer(curves, slot, topology, input_sum);
-    let judged = answers::first(argument, answers::first(count, entries));
+    let judged = answers::first(argument, entries);
     judged_value(answers::first(curves::judge_length(curves), judged), value)
 }
 

@@ -32,7 +32,7 @@ use Rattle.refresh.proofs.Parts.{judged-by-parts}
 use Rattle.sample.specs.declared.Outputs.{Outputs}
 use Rattle.sample.specs.declared.Sampled.{Sampled}
 use Rattle.sample.specs.declared.Sampled.the-variants.{Taken, Refused}
-use Rattle.sample.specs.Sample.{summerSlotOf, judgeInputOf, judgeMixerCountOf, judgeReadsOf, judgeSampleOf, filterSampleOf, takenOf, advanceFilterCoreOf, selectFilterOutputOf}
+use Rattle.sample.specs.Sample.{summerSlotOf, judgeInputOf, judgeReadsOf, judgeSampleOf, filterSampleOf, takenOf, advanceFilterCoreOf, selectFilterOutputOf}
 use Rattle.sample.proofs.Valid.{finiteTaken, sample-valid}
 use Rattle.script.specs.declared.Event.{Event}
 use Rattle.script.specs.declared.Event.the-variants.{CutoffLow, CutoffHigh, Routing, Mode, Sample, Reset}
@@ -184,6 +184,7 @@ fresh-countable routing mode =
     rw (
       le-leb n 4 h,
       le-leb (outputCountOf mode) 3 (output-most mode),
+      le-leb (mixerCountOf routing mode) 7 (mixer-most routing mode),
       reciprocal-finite n (omega (arith, h)),
       reciprocal-finite (2 + n) (omega (arith, h)),
       reciprocal-finite (mixerCountOf routing mode) (mixer-most routing mode),
@@ -235,7 +236,7 @@ module _ (l : Lent) (s : State) (valid : validOf s ≡ true) (judged : judgeCont
         let t = freshTopologyOf s in
         let reads = judgeReadsOf (l .bundle) (l .curves) (summerSlotOf t) t (s .integrator) sum in
         let p = parts (l .bundle) s judged in
-        rw (p .0, p .1, first-of-done reads) (go (isDoneOf (firstOf (judgeInputOf sum energy) (firstOf (judgeMixerCountOf t) reads))) _ _)
+        rw (p .0, p .1, first-of-done reads) (go (isDoneOf (firstOf (judgeInputOf sum energy) reads)) _ _)
       where
         go : (d : Bool) (answer : Answer) (x : Sampled) → plainTaken s (cond d x (Refused answer)) ≡ cond d (plainTaken s x) (refusedAt s answer)
         go true answer x = refl

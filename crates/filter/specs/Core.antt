@@ -43,11 +43,12 @@ coreOf l s = record { state = s; topology = freshTopologyOf s; controls = contro
 
 -- ---- a core that is handed in: 10, by one rule for every method
 
--- no index past its table (the chip has four inputs and three outputs), and every float finite
+-- no index past its table (the chip has four inputs, three outputs and seven mixer inputs), and every float finite
 abbrev pub countableOf : MixingTopology → Bool
 countableOf t =
     leb (t .«filter_input_count») 4
     && leb (t .«filter_output_count») 3
+    && leb (t .«mixer_input_count») 7
     && finite (t .«filter_input_reciprocal»)
     && finite (t .«summer_input_reciprocal»)
     && finite (t .«mixer_input_reciprocal»)

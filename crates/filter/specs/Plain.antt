@@ -15,7 +15,7 @@ use Rattle.controls.specs.Judging.{judgeEntriesOf, judgeDomainOf, judgeControls
 use Rattle.sample.specs.declared.Outputs.{Outputs}
 use Rattle.sample.specs.declared.Sampled.{Sampled}
 use Rattle.sample.specs.declared.Sampled.the-variants.{Taken, Refused}
-use Rattle.sample.specs.Sample.{summerSlotOf, judgeInputOf, judgeMixerCountOf, judgeReadsOf, advanceFilterCoreOf, takenOf}
+use Rattle.sample.specs.Sample.{summerSlotOf, judgeInputOf, judgeReadsOf, advanceFilterCoreOf, takenOf}
 use Rattle.script.specs.declared.Event.{Event}
 use Rattle.script.specs.declared.Event.the-variants.{CutoffLow, CutoffHigh, Routing, Mode, Sample, Reset}
 use Rattle.filter.specs.Lent.{Lent, judgeLentOf}
@@ -45,15 +45,14 @@ abbrev pub plainTaken : State → Sampled → Plain
 plainTaken s (Taken outputs i) = record { answer = Done; sample = outputs ∷ []; state = record { registers = s .registers; integrator = i } }
 plainTaken s (Refused answer) = refusedAt s answer
 
--- A sample: 5, 9, then every 3, of the controls and of the sample, then 6 of the controls; and last its own 6.
+-- A sample: 5, then every 3, of the controls and of the sample, then 6 of the controls; and last its own 6.
 abbrev pub judgePlain : Lent → State → Float → Float → Answer
 judgePlain l s sum energy =
     let topology = topologyOf (s .registers .routing) (s .registers .mode) in
     firstOf (judgeInputOf sum energy)
-    (firstOf (judgeMixerCountOf topology)
     (firstOf (judgeEntriesOf (l .bundle) s)
     (firstOf (judgeReadsOf (l .bundle) (l .curves) (summerSlotOf topology) topology (s .integrator) sum)
-    (judgeDomainOf (l .bundle) s))))
+    (judgeDomainOf (l .bundle) s)))
 
 -- It takes the block's floats and the event's, with topology and controls worked out afresh.
 abbrev pub plainSampled : Lent → State → Float → Float → Sampled

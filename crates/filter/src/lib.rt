@@ -46,6 +46,7 @@ fn countable(topology: MixingTopology) -> bool
 {
     (topology.filter_input_count <= 4)
         & (topology.filter_output_count <= 3)
+        & (topology.mixer_input_count <= 7)
         & floats::is_finite(topology.filter_input_reciprocal)
         & floats::is_finite(topology.summer_input_reciprocal)
         & floats::is_finite(topology.mixer_input_reciprocal)
@@ -238,7 +239,7 @@ impl Core {
         }
     }
 
-    // What a sample makes of the core. Refuses 5, 9, 3, 6.
+    // What a sample makes of the core. Refuses 5, 3, 6.
     fn take(self, bundle: &[u8], curves: &[u8], input_sum: f32, source_energy: f32) -> Fed
         ensures { λ r. ⌜ r ≡ F.takeOf (lentOf (now (bundle .entry)) (now (curves .entry))) self «input_sum» «source_energy» ⌝ }
     {
@@ -320,7 +321,7 @@ impl Core {
         self.write(bundle, Event::Reset)
     }
 
-    // One sample. Refuses 1, 2, 4, 10, 5, 9, 3, 6.
+    // One sample. Refuses 1, 2, 4, 10, 5, 3, 6.
     pub fn sample(self, bundle: &[u8], curves: &[u8], input_sum: f32, source_energy: f32) -> Fed
         ensures { λ r. ⌜ r ≡ F.feedOf (lentOf (now (bundle .entry)) (now (curves .entry))) self (Sample «input_sum» «source_energy») ⌝ }
     {

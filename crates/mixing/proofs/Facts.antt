@@ -1,5 +1,5 @@
 -- Facts of the topology: memberships are disjoint; they total four, or three exactly if mode bit 3 is set and routing bit 2
--- clear; the mixer has at most seven inputs, so that the Rust's bound changes nothing. Assumes nothing.
+-- clear; the mixer has at most seven inputs. Assumes nothing.
 use mathlib.Core.Path.{_≡_, refl, _∙_}
 use mathlib.Core.Bool.{Bool, true, false, not, _&&_, cond}
 use mathlib.Core.List.{[], _∷_}
@@ -53,13 +53,10 @@ pub output-most : (mode : ℕ) → outputCountOf mode ≤ 3
 unfolding outputCountOf
 output-most mode = omega (arith, one-most (bit mode 0), one-most (bit mode 1), one-most (bit mode 2))
 
-pub mixer-is : (routing mode : ℕ) → mixerCountOf routing mode ≡ bypassCountOf routing mode + outputCountOf mode
-unfolding mixerCountOf
-mixer-is routing mode = omega (arith, bypass-most routing mode, output-most mode)
-
+-- four past the filter and three outputs make seven
 pub mixer-most : (routing mode : ℕ) → mixerCountOf routing mode ≤ 7
 unfolding mixerCountOf
-mixer-most routing mode = omega arith
+mixer-most routing mode = omega (arith, bypass-most routing mode, output-most mode)
 
 -- `MixingTopology::new`, field by field from mixing.rs, is `update` at routing 0 and mode 0.
 pub new-is-update : topologyOf 0 0 ≡

@@ -10,9 +10,9 @@ use lib.Ieee.{Float}
 use Rattle.mixing.specs.declared.MixingTopology.{MixingTopology}
 use Rattle.response.specs.Bits.{bit}
 use Rattle.wire.specs.Text.{ascii}
-use Rattle.mixing.specs.Topology.{one, reciprocalOf, filterCountOf, bypassCountOf, outputCountOf, topologyOf}
+use Rattle.mixing.specs.Topology.{one, reciprocalOf, filterCountOf, bypassCountOf, outputCountOf, mixerCountOf, topologyOf}
 use Rattle.mixing.specs.Line.{digit, flag, lineOf}
-use Rattle.mixing.proofs.Facts.{mixer-is, filter-most, bypass-most, output-most, mixer-most}
+use Rattle.mixing.proofs.Facts.{filter-most, bypass-most, output-most, mixer-most}
 
 -- f are the flags of the filter, o is voice 3 off, m the mode's outputs; n, b and q are the counts
 pub topology-told : (routing mode : ℕ) {f0 f1 f2 f3 o m0 m1 m2 : Bool} {n b q u v : ℕ} {x y z : Float}
@@ -35,9 +35,9 @@ pub topology-told : (routing mode : ℕ) {f0 f1 f2 f3 o m0 m1 m2 : Bool} {n b q 
       «bypass_internal_mask» = v;
     })
     (topologyOf routing mode)
-unfolding topologyOf filterCountOf bypassCountOf outputCountOf
+unfolding topologyOf filterCountOf bypassCountOf outputCountOf mixerCountOf
 topology-told routing mode f0 f1 f2 f3 o m0 m1 m2 n b q x y z u v =
-    simp (x, y, z, u, v, n, b, q, f0, f1, f2, f3, o, m0, m1, m2, mixer-is routing mode, and-true, add-zero)
+    simp (x, y, z, u, v, n, b, q, f0, f1, f2, f3, o, m0, m1, m2, and-true, add-zero)
 
 -- what `line` puts together is the line: f and b are the flags, d the digits
 abbrev member : List Bool → ℕ → ℕ

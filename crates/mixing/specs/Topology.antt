@@ -1,6 +1,6 @@
 -- `MixingTopology::update` of mixing.rs: which sources the filter takes and which go straight to the mixer, by the routing and the mode nibble.
 -- Sources 0 to 2 are voices 1 to 3, and source 3 is the external input.
-use Prim.Native.Nat.{ℕ, _+_, _*_, min}
+use Prim.Native.Nat.{ℕ, _+_, _*_}
 use mathlib.Core.Bool.{Bool, not, _&&_, cond}
 use mathlib.Core.List.{List, [], _∷_}
 use lib.Dec.{eqb}
@@ -42,8 +42,9 @@ bypassCountOf routing mode = countOf (bypassedOf routing mode)
 unfoldable pub outputCountOf : ℕ → ℕ
 outputCountOf mode = one (bit mode 0) + one (bit mode 1) + one (bit mode 2)
 
+-- both reach the mixer. The Rust's `.min(7)` is left out: `mixer-most` of proofs/Facts.antt shows that there are never more than seven.
 unfoldable pub mixerCountOf : ℕ → ℕ → ℕ
-mixerCountOf routing mode = min (bypassCountOf routing mode + outputCountOf mode) 7
+mixerCountOf routing mode = bypassCountOf routing mode + outputCountOf mode
 
 -- 1.0 / count as f32, and 0.0 for no input
 unfoldable pub reciprocalOf : ℕ → Float

@@ -60,7 +60,7 @@ fn reciprocal(count: usize) -> f32
 
 impl MixingTopology {
     // The topology of a routing and a mode nibble. Voice 3 is turned off on its way past the filter alone. Four inputs past the
-    // filter and three outputs make seven at the mixer, so the Rust's bound of 7 needs no test.
+    // filter and three outputs make seven at the mixer.
     pub fn update(routing: u8, mode: u8) -> Self
         ensures { λ r. ⌜ r ≡ topologyOf routing mode ⌝ }
     {

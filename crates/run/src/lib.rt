@@ -465,7 +465,7 @@ fn turned_back(answer: Answer) -> Ended
 }
 
 // Runs a script from the state in its block: the samples go into the output, the state after them into the block. It stops at the first refusal: 1, 2, 4, 10, 7, 8
-// leave everything, then come 3 and 6 of the controls, then 5, 9, 3 and 6 event by event, with what was done before them written.
+// leave everything, then come 3 and 6 of the controls, then 5, 3 and 6 event by event, with what was done before them written.
 pub fn run(
     bundle: &[u8],
     curves: &[u8],

@@ -3,7 +3,6 @@ use Prim.Native.Nat.{ℕ}
 use mathlib.Core.Path.{_≡_, refl, _∙_}
 use mathlib.Core.Bool.{Bool, true, false, cond, _&&_}
 use mathlib.Core.List.{List, []}
-use lib.Dec.{leb}
 use lib.Ieee.{Float}
 use lib.Ieee.Scale.{finite}
 use Rattle.answers.specs.declared.Answer.{Answer}
@@ -57,16 +56,14 @@ module _ (bundle curves : List ℕ) (slot : ℕ) (t : MixingTopology) (c : Contr
 
   plain : steppedOf t c mode s energy (coreInputOf curves slot t (restOf bundle t) s sum energy) ≡ filterSampleOf bundle curves slot t c mode s sum energy
   unfolding steppedOf coreInputOf filterSampleOf judgeSampleOf advanceFilterCoreOf judgeSummerOf summerTransferOf
-  plain = go (finite sum && finite energy) (leb (t .«mixer_input_count») 7) (isIdleOf (t .«filter_input_count») s) (isDoneOf (judgeSummerOf bundle curves slot t sum)) refl refl refl refl
+  plain = go (finite sum && finite energy) (isIdleOf (t .«filter_input_count») s) (isDoneOf (judgeSummerOf bundle curves slot t sum)) refl refl refl
     where
-      go : (f l i d : Bool) → (finite sum && finite energy) ≡ f → leb (t .«mixer_input_count») 7 ≡ l → isIdleOf (t .«filter_input_count») s ≡ i
-          → isDoneOf (judgeSummerOf bundle curves slot t sum) ≡ d
+      go : (f i d : Bool) → (finite sum && finite energy) ≡ f → isIdleOf (t .«filter_input_count») s ≡ i → isDoneOf (judgeSummerOf bundle curves slot t sum) ≡ d
           → steppedOf t c mode s energy (coreInputOf curves slot t (restOf bundle t) s sum energy) ≡ filterSampleOf bundle curves slot t c mode s sum energy
-      go false l i d e g h k = simp e
-      go true false i d e g h k = simp (e, g)
-      go true true true d e g h k = simp (e, g, h)
-      go true true false true e g h k = simp (e, g, h, above-read, k)
-      go true true false false e g h k = simp (e, g, h, above-read, k)
+      go false i d e h k = simp e
+      go true true d e h k = simp (e, h)
+      go true false true e h k = simp (e, h, above-read, k)
+      go true false false e h k = simp (e, h, above-read, k)
 
   pub parts-are-sample : sampleFromPartsOf curves slot t parts (restOf bundle t) mode s sum energy ≡ filterSampleOf bundle curves slot t c mode s sum energy
   parts-are-sample = same-stepped (coreInputOf curves slot t (restOf bundle t) s sum energy) ∙ plain

@@ -3,11 +3,10 @@
 use Prim.Native.Nat.{ℕ}
 use mathlib.Core.Bool.{false, cond, _&&_}
 use mathlib.Core.List.{List}
-use lib.Dec.{leb}
 use lib.Ieee.{Float}
 use lib.Ieee.Scale.{finite}
 use Rattle.constants.specs.Values as K
-use Rattle.answers.specs.declared.Answer.the-variants.{InputNotFinite, MixerInputs}
+use Rattle.answers.specs.declared.Answer.the-variants.{InputNotFinite}
 use Rattle.answers.specs.declared.Buffer.the-variants.{Bundle, Curves}
 use Rattle.floats.specs.Arithmetic.{_⊖_, _⊗_, f32}
 use Rattle.integrator.specs.declared.IntegratorState.{IntegratorState}
@@ -86,13 +85,11 @@ summedOf curves slot t rest sum = aboveOf (summerCurveOf curves slot t sum) rest
 
 -- ---- the sample
 
--- 5, 9, and 3 where the sample is not idle
+-- 5, and 3 where the sample is not idle
 unfoldable pub coreInputOf : List ℕ → ℕ → MixingTopology → Read → IntegratorState → Float → Float → CoreInput
 coreInputOf curves slot t rest s sum energy =
     cond (finite sum && finite energy)
-    (cond (leb (t .«mixer_input_count») 7)
     (cond (isIdleOf (t .«filter_input_count») s) Idle (summedOf curves slot t rest sum))
-    (Unfed MixerInputs))
     (Unfed InputNotFinite)
 
 -- `advance_filter_core` from what the summer gives, and `select_filter_output`

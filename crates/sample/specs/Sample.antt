@@ -1,16 +1,16 @@
 -- The filter's step for one sample, operation by operation from filter.rs: `summer_transfer`, `advance_filter_core`, `select_filter_output`,
--- and the refusals 5, 9, 3 and 6 in that order.
+-- and the refusals 5, 3 and 6 in that order.
 use Prim.Native.Nat.{ℕ, _+_, _%_, min}
 use mathlib.Core.Bool.{Bool, cond, _&&_}
 use mathlib.Core.List.{List}
-use lib.Dec.{eqb, leb, ltb}
+use lib.Dec.{eqb, ltb}
 use lib.IntN.{pos}
 use lib.ListN.{getD}
 use lib.Ieee.{Float, nan, eq, binary32, ofInt}
 use lib.Ieee.Scale.{finite}
 use Rattle.constants.specs.Values as K
 use Rattle.answers.specs.declared.Answer.{Answer}
-use Rattle.answers.specs.declared.Answer.the-variants.{Done, InputNotFinite, Domain, MixerInputs}
+use Rattle.answers.specs.declared.Answer.the-variants.{Done, InputNotFinite, Domain}
 use Rattle.answers.specs.declared.Buffer.the-variants.{Bundle, Curves}
 use Rattle.answers.specs.Answers.{firstOf, unlessOf, isDoneOf}
 use Rattle.floats.specs.Arithmetic.{_⊕_, _⊖_, _⊗_, _⊘_, f32}
@@ -149,16 +149,12 @@ selectFilterOutputOf c count mode o =
 abbrev pub judgeInputOf : Float → Float → Answer
 judgeInputOf sum energy = unlessOf (finite sum && finite energy) InputNotFinite
 
--- 9
-abbrev pub judgeMixerCountOf : MixingTopology → Answer
-judgeMixerCountOf t = unlessOf (leb (t .«mixer_input_count») 7) MixerInputs
-
 -- 3: an idle sample reads nothing
 abbrev pub judgeReadsOf : List ℕ → List ℕ → ℕ → MixingTopology → IntegratorState → Float → Answer
 judgeReadsOf bundle curves slot t s sum = cond (isIdleOf (t .«filter_input_count») s) Done (judgeSummerOf bundle curves slot t sum)
 
 unfoldable pub judgeSampleOf : List ℕ → List ℕ → ℕ → MixingTopology → IntegratorState → Float → Float → Answer
-judgeSampleOf bundle curves slot t s sum energy = firstOf (judgeInputOf sum energy) (firstOf (judgeMixerCountOf t) (judgeReadsOf bundle curves slot t s sum))
+judgeSampleOf bundle curves slot t s sum energy = firstOf (judgeInputOf sum energy) (judgeReadsOf bundle curves slot t s sum)
 
 -- the four numbers that a sample gives are finite
 abbrev pub outputsFinite : Outputs → Bool

@@ -311,7 +311,7 @@ fn taken(
     }
 }
 
-// Whether the sum and the energy are finite and the mixer's inputs at most 7, then what the summer gives.
+// Whether the sum and the energy are finite, then what the summer gives.
 fn core_input(
     curves: &[u8],
     slot: u8,
@@ -324,13 +324,10 @@ fn core_input(
     ensures { λ r. ⌜ r ≡ P.coreInputOf (now (curves .entry)) slot topology rest s «input_sum» «source_energy» ⌝ }
 {
     if floats::is_finite(input_sum) & floats::is_finite(source_energy) {
-        if topology.mixer_input_count <= 7 {
-            if is_idle(topology.filter_input_count, s) {
-                return CoreInput::Idle;
-            }
-            return summed(curves, slot, topology, rest, input_sum);
+        if is_idle(topology.filter_input_count, s) {
+            return CoreInput::Idle;
         }
-        return CoreInput::Refused(Answer::MixerInputs);
+        return summed(curves, slot, topology, rest, input_sum);
     }
     CoreInput::Refused(Answer::InputNotFinite)
 }

@@ -48,7 +48,7 @@ pub extern "C" fn sid_filter_build_curves(bundle: &[u8], curves: &mut [u8]) -> R
 }
 
 // Runs a script from the state in its block: the samples go into the output, the state after them into the block. Refuses 1, 2, 4, 10, 7, 8 and then
-// leaves everything; 3 or 6 of the controls; and event by event 5, 9, 3, 6, with the samples and the state before the stop written.
+// leaves everything; 3 or 6 of the controls; and event by event 5, 3, 6, with the samples and the state before the stop written.
 #[no_mangle]
 pub extern "C" fn sid_filter_run(
     bundle: &[u8],

@@ -1,13 +1,14 @@
 -- `mixer_transfer` and `volume_transfer` of filter.rs, operation by operation, and the entries that each reads.
 -- Of the 31 curves the mixer's are 7 to 14 and the volume's 15 to 30.
 use Prim.Native.Nat.{ℕ, _+_, min}
-use mathlib.Core.Bool.{cond}
+use mathlib.Core.Bool.{Bool, cond}
 use mathlib.Core.List.{List}
-use lib.Dec.{eqb}
+use lib.Dec.{eqb, leb}
 use lib.Ieee.{Float}
 use Rattle.answers.specs.declared.Answer.{Answer}
+use Rattle.answers.specs.declared.Answer.the-variants.{Argument}
 use Rattle.answers.specs.declared.Buffer.the-variants.{Curves}
-use Rattle.floats.specs.Arithmetic.{_⊗_}
+use Rattle.floats.specs.Arithmetic.{_⊗_, f32}
 use Rattle.response.specs.Levels.{filterModeQuiescentLevelOf}
 use Rattle.mixing.specs.declared.MixingTopology.{MixingTopology}
 use Rattle.bundle.specs.Opening.{judgePlacesOf}
@@ -15,19 +16,25 @@ use Rattle.curves.specs.Sampling.{sampleCurveOf, sampleCurvePlacesOf}
 
 -- ---- `mixer_transfer`
 
--- curves.mixer[input_count], by its slot in a buffer of all 31 curves. A count above 7, at which the Rust panics, counts as 7.
+-- there is a curve for 0 to 7 inputs; no routing and mode have more
+abbrev pub mixableOf : ℕ → Bool
+mixableOf count = leb count 7
+
+-- curves.mixer[input_count], by its slot in a buffer of all 31 curves; where there is none, 31, which is no curve's
 abbrev pub mixerSlotOf : ℕ → ℕ
-mixerSlotOf count = 7 + min count 7
+mixerSlotOf count = cond (mixableOf count) (7 + count) 31
 
 -- the quiescent level where there is no input, else input_sum * mixer_input_reciprocal
 abbrev pub mixerAverageOf : MixingTopology → Float → Float
 mixerAverageOf t sum = cond (eqb (t .«mixer_input_count») 0) filterModeQuiescentLevelOf (sum ⊗ t .«mixer_input_reciprocal»)
 
+-- a count above 7, at which the Rust panics, reads nothing and gives 0
 unfoldable pub mixerTransferOf : List ℕ → ℕ → MixingTopology → Float → Float
-mixerTransferOf curves slot t sum = sampleCurveOf curves slot (mixerAverageOf t sum)
+mixerTransferOf curves slot t sum = cond (mixableOf (t .«mixer_input_count»)) (sampleCurveOf curves slot (mixerAverageOf t sum)) (f32 0)
 
+-- and it is a 10
 unfoldable pub judgeMixerOf : List ℕ → ℕ → MixingTopology → Float → Answer
-judgeMixerOf curves slot t sum = judgePlacesOf Curves curves (sampleCurvePlacesOf slot (mixerAverageOf t sum))
+judgeMixerOf curves slot t sum = cond (mixableOf (t .«mixer_input_count»)) (judgePlacesOf Curves curves (sampleCurvePlacesOf slot (mixerAverageOf t sum))) Argument
 
 -- ---- `volume_transfer`
 

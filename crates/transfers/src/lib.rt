@@ -7,11 +7,22 @@ use mixing::MixingTopology;
 
 // ---- mixer_transfer
 
-// Where the mixer's curve for a count of inputs stands in a buffer of all 31 curves; there is none for more than seven.
+// There is a curve for this count of inputs.
+fn mixable(count: usize) -> bool
+    ensures { λ r. ⌜ r ≡ T.mixableOf count ⌝ }
+{
+    count <= 7
+}
+
+// Where the mixer's curve for a count of inputs stands in a buffer of all 31 curves; past them where there is none.
 pub fn mixer_slot(count: usize) -> u8
     ensures { λ r. ⌜ r ≡ T.mixerSlotOf count ⌝ }
 {
-    if count < 7 { 7 + (count as u8) } else { 14 }
+    if mixable(count) {
+        7 + (count as u8)
+    } else {
+        31
+    }
 }
 
 // The level of one input; where there is none, the amplifier is at rest.
@@ -24,18 +35,24 @@ fn mixer_average(topology: MixingTopology, sum: f32) -> f32
     sum * topology.mixer_input_reciprocal
 }
 
-// The mixer's output for the sum of its inputs.
+// The mixer's output for the sum of its inputs; 0, and nothing is read, for a count that has no curve.
 pub fn mixer_transfer(curves: &[u8], slot: u8, topology: MixingTopology, input_sum: f32) -> f32
     ensures { λ r. ⌜ r ≡ T.mixerTransferOf (now (curves .entry)) slot topology «input_sum» ⌝ }
 {
-    curves::sample_curve(curves, slot, mixer_average(topology, input_sum))
+    if mixable(topology.mixer_input_count) {
+        return curves::sample_curve(curves, slot, mixer_average(topology, input_sum));
+    }
+    0.0
 }
 
-// The entries that it reads.
+// Its count, and the entries that it reads. Refuses 10, 3.
 pub fn judge_mixer(curves: &[u8], slot: u8, topology: MixingTopology, input_sum: f32) -> Answer
     ensures { λ r. ⌜ r ≡ T.judgeMixerOf (now (curves .entry)) slot topology «input_sum» ⌝ }
 {
-    curves::judge_sample_curve(curves, slot, mixer_average(topology, input_sum))
+    if mixable(topology.mixer_input_count) {
+        return curves::judge_sample_curve(curves, slot, mixer_average(topology, input_sum));
+    }
+    Answer::Argument
 }
 
 // ---- volume_transfer

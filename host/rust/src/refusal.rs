@@ -10,7 +10,7 @@ pub enum Buffer {
     Curves,
 }
 
-/// Why a call was refused: the ten causes that include/sid_filter.h lists. Its text is the sentence, with the place where there is one.
+/// Why a call was refused: the nine causes that include/sid_filter.h lists. Its text is the sentence, with the place where there is one.
 #[derive(Clone, Copy, Debug, PartialEq, Eq, Hash)]
 pub enum Refusal {
     /// 1: the bundle has another length.
@@ -37,14 +37,12 @@ pub enum Refusal {
     Script,
     /// 8: the output has too little room.
     OutputLength,
-    /// 9: more mixer inputs than there are. No state leads there.
-    MixerInputs,
     /// 10: the state block is invalid.
     Argument,
 }
 
 impl Refusal {
-    /// The cause's number in the table, 1 to 10.
+    /// The cause's number in the table, 1 to 8 or 10; 9 is unused.
     pub fn number(self) -> u32 {
         match self {
             Refusal::BundleLength => 1,
@@ -55,7 +53,6 @@ impl Refusal {
             Refusal::Domain => 6,
             Refusal::Script => 7,
             Refusal::OutputLength => 8,
-            Refusal::MixerInputs => 9,
             Refusal::Argument => 10,
         }
     }
@@ -74,7 +71,6 @@ impl Refusal {
                 "the script's length is not 8 + 12 x count, or its offset, its count, an event's kind or its zero bytes are wrong"
             }
             Refusal::OutputLength => "the output is shorter than 16 bytes a sample event",
-            Refusal::MixerInputs => "there are more than 7 mixer inputs",
             Refusal::Argument => "the state block is invalid",
         }
     }
@@ -109,9 +105,8 @@ impl Refusal {
             6 => Some(Refusal::Domain),
             7 => Some(Refusal::Script),
             8 => Some(Refusal::OutputLength),
-            9 => Some(Refusal::MixerInputs),
             10 => Some(Refusal::Argument),
-            number => unreachable!("the library answers 0 to 10, not {number}"),
+            number => unreachable!("the library answers 0 to 8 or 10, not {number}"),
         }
     }
 }
@@ -141,11 +136,11 @@ mod tests {
         Answer { number, events: 0, samples: 0, buffer: 1, place: 56 }
     }
 
-    /// Each of the ten has its number, and buffer and place where the table has them.
+    /// Each of the nine has its number, and buffer and place where the table has them.
     #[test]
     fn every_number_has_its_refusal() {
         assert_eq!(Refusal::of(answer(0)), None);
-        for number in 1..=10 {
+        for number in (1..=8).chain([10]) {
             let refusal = Refusal::of(answer(number)).expect("a refusal");
             assert_eq!(refusal.number(), number);
             assert_eq!(refusal.buffer(), (number == 3).then_some(Buffer::Curves));
@@ -154,7 +149,7 @@ mod tests {
         }
     }
 
-    /// The numbers are those of the header.
+    /// The numbers are those of the header, which has no 9.
     #[test]
     fn the_numbers_are_those_of_the_header() {
         let named = [
@@ -166,13 +161,13 @@ mod tests {
             ("DOMAIN", Refusal::Domain),
             ("SCRIPT", Refusal::Script),
             ("OUTPUT_LENGTH", Refusal::OutputLength),
-            ("MIXER_INPUTS", Refusal::MixerInputs),
             ("ARGUMENT", Refusal::Argument),
         ];
         for (name, refusal) in named {
             let line = format!("    SID_FILTER_{name} = {}", refusal.number());
             assert!(HEADER.lines().any(|l| l.trim_end_matches(',') == line), "{line}");
         }
+        assert!(!HEADER.contains("= 9"));
     }
 
     /// The sentences are those of `bounce`, word for word, and a place is named where it names one.
@@ -189,7 +184,6 @@ mod tests {
             ("Domain", Refusal::Domain),
             ("Script", Refusal::Script),
             ("OutputLength", Refusal::OutputLength),
-            ("MixerInputs", Refusal::MixerInputs),
             ("Argument", Refusal::Argument),
         ];
         for (name, refusal) in named {

@@ -18,23 +18,17 @@ is-finite-requires-2 c κs = search needs
 unless-requires : tie.Need-unless-requires
 unless-requires c κs = search needs
 
-unless-requires-2 : tie.Need-unless-requires-2
-unless-requires-2 c κs = search needs
-
 judge-mixer-requires : tie.Need-judge-mixer-requires
 judge-mixer-requires c κs = search needs
 
 first-requires : tie.Need-first-requires
 first-requires c κs = search needs
 
-first-requires-2 : tie.Need-first-requires-2
-first-requires-2 c κs = search needs
-
 judge-length-requires : tie.Need-judge-length-requires
 judge-length-requires c κs = search needs
 
-first-requires-3 : tie.Need-first-requires-3
-first-requires-3 c κs = search needs
+first-requires-2 : tie.Need-first-requires-2
+first-requires-2 c κs = search needs
 
 judged-value-requires : tie.Need-judged-value-requires
 judged-value-requires c κs = search needs
@@ -42,16 +36,14 @@ judged-value-requires c κs = search needs
 returns : tie.Need-returns
 unfolding mixerTransferCallOf mixerAnswerOf
 returns c =
-    let y = c .before .before .before .before in
-    let z = y .before .before .before .before in
+    let y = c .before .before .before in
+    let z = y .before .before in
     simp (
       c .judged-value .ensures,
-      c .before .first3 .ensures,
+      c .before .first2 .ensures,
       c .before .before .judge-length .ensures,
-      c .before .before .before .first2 .ensures,
       y .first .ensures,
       y .before .judge-mixer .ensures,
-      y .before .before .unless2 .ensures,
       z .unless .ensures,
       z .before .is-finite2 .ensures,
       z .before .before .is-finite .ensures,
@@ -68,11 +60,9 @@ mixer-transfer-spec =
     is-finite-requires
     is-finite-requires-2
     unless-requires
-    unless-requires-2
     judge-mixer-requires
     first-requires
-    first-requires-2
     judge-length-requires
-    first-requires-3
+    first-requires-2
     judged-value-requires
     returns)

@@ -1,4 +1,3 @@
-use borrow.Author.Tests.{le-leb, lt-leb}
 use Rattle.sample.specs.Parts.{coreInputOf}
 use borrow.Author.Needs.{needs}
 use Rattle.sample.proofs.core_input.Statement.{statement}
@@ -16,8 +15,8 @@ is-idle-requires c κs = search needs
 returns : tie.Need-returns
 unfolding coreInputOf
 returns c =
-    let z = c .before .before .before .before in
-    simp (← z .before .before .is-finite .ensures, ← z .before .is-finite2 .ensures, z .if1 .taken, le-leb _ _ (c .before .before .if2 .taken), ← c .before .is-idle .ensures, c .if3 .taken)
+    let z = c .before .before in
+    simp (← z .before .before .is-finite .ensures, ← z .before .is-finite2 .ensures, z .if1 .taken, ← c .before .is-idle .ensures, c .if2 .taken)
 
 summed-requires : tie.Need-summed-requires
 summed-requires c κs = search needs
@@ -25,25 +24,13 @@ summed-requires c κs = search needs
 returns-2 : tie.Need-returns-2
 unfolding coreInputOf
 returns-2 c =
-    let z = c .before .before .before .before .before in
-    simp (
-      ← z .before .before .is-finite .ensures,
-      ← z .before .is-finite2 .ensures,
-      z .if1 .taken,
-      le-leb _ _ (c .before .before .before .if2 .taken),
-      ← c .before .before .is-idle .ensures,
-      c .before .if3 .left,
-    ) (c .summed .ensures)
+    let z = c .before .before .before in
+    simp (← z .before .before .is-finite .ensures, ← z .before .is-finite2 .ensures, z .if1 .taken, ← c .before .before .is-idle .ensures, c .before .if2 .left)
+    (c .summed .ensures)
 
 returns-3 : tie.Need-returns-3
 unfolding coreInputOf
-returns-3 c =
-    let z = c .before .before in
-    simp (← z .before .before .is-finite .ensures, ← z .before .is-finite2 .ensures, z .if1 .taken, lt-leb _ _ (c .if2 .left))
-
-returns-4 : tie.Need-returns-4
-unfolding coreInputOf
-returns-4 c = simp (← c .before .before .is-finite .ensures, ← c .before .is-finite2 .ensures, c .if1 .left)
+returns-3 c = simp (← c .before .before .is-finite .ensures, ← c .before .is-finite2 .ensures, c .if1 .left)
 
 pub core-input-spec : {M : Type 1} → statement M
 core-input-spec =
@@ -55,5 +42,4 @@ core-input-spec =
     returns
     summed-requires
     returns-2
-    returns-3
-    returns-4)
+    returns-3)
