@@ -1,7 +1,7 @@
 -- `mixer_transfer` and `volume_transfer` of filter.rs, operation by operation, and the entries that each reads.
 -- Of the 31 curves the mixer's are 7 to 14 and the volume's 15 to 30.
 use Prim.Native.Nat.{ℕ, _+_, min}
-use mathlib.Core.Bool.{Bool, cond}
+use mathlib.Core.Bool.{cond}
 use mathlib.Core.List.{List}
 use lib.Dec.{eqb, leb}
 use lib.Ieee.{Float}
@@ -16,25 +16,21 @@ use Rattle.curves.specs.Sampling.{sampleCurveOf, sampleCurvePlacesOf}
 
 -- ---- `mixer_transfer`
 
--- there is a curve for 0 to 7 inputs; no routing and mode have more
-abbrev pub mixableOf : ℕ → Bool
-mixableOf count = leb count 7
-
--- curves.mixer[input_count], by its slot in a buffer of all 31 curves; where there is none, 31, which is no curve's
+-- curves.mixer[input_count], by its slot in a buffer of all 31 curves. There is one for 0 to 7 inputs; no curve has the slot 31.
 abbrev pub mixerSlotOf : ℕ → ℕ
-mixerSlotOf count = cond (mixableOf count) (7 + count) 31
+mixerSlotOf count = cond (leb count 7) (7 + count) 31
 
 -- the quiescent level where there is no input, else input_sum * mixer_input_reciprocal
 abbrev pub mixerAverageOf : MixingTopology → Float → Float
 mixerAverageOf t sum = cond (eqb (t .«mixer_input_count») 0) filterModeQuiescentLevelOf (sum ⊗ t .«mixer_input_reciprocal»)
 
--- a count above 7, at which the Rust panics, reads nothing and gives 0
+-- A count above 7, at which the Rust panics, reads nothing: its value is 0,
 unfoldable pub mixerTransferOf : List ℕ → ℕ → MixingTopology → Float → Float
-mixerTransferOf curves slot t sum = cond (mixableOf (t .«mixer_input_count»)) (sampleCurveOf curves slot (mixerAverageOf t sum)) (f32 0)
+mixerTransferOf curves slot t sum = cond (leb (t .«mixer_input_count») 7) (sampleCurveOf curves slot (mixerAverageOf t sum)) (f32 0)
 
--- and it is a 10
+-- and it is a 10.
 unfoldable pub judgeMixerOf : List ℕ → ℕ → MixingTopology → Float → Answer
-judgeMixerOf curves slot t sum = cond (mixableOf (t .«mixer_input_count»)) (judgePlacesOf Curves curves (sampleCurvePlacesOf slot (mixerAverageOf t sum))) Argument
+judgeMixerOf curves slot t sum = cond (leb (t .«mixer_input_count») 7) (judgePlacesOf Curves curves (sampleCurvePlacesOf slot (mixerAverageOf t sum))) Argument
 
 -- ---- `volume_transfer`
 

@@ -7,22 +7,11 @@ use mixing::MixingTopology;
 
 // ---- mixer_transfer
 
-// There is a curve for this count of inputs.
-fn mixable(count: usize) -> bool
-    ensures { λ r. ⌜ r ≡ T.mixableOf count ⌝ }
-{
-    count <= 7
-}
-
-// Where the mixer's curve for a count of inputs stands in a buffer of all 31 curves; past them where there is none.
+// Where the mixer's curve for a count of inputs stands in a buffer of all 31 curves; past them for more than seven, which have none.
 pub fn mixer_slot(count: usize) -> u8
     ensures { λ r. ⌜ r ≡ T.mixerSlotOf count ⌝ }
 {
-    if mixable(count) {
-        7 + (count as u8)
-    } else {
-        31
-    }
+    if count <= 7 { 7 + (count as u8) } else { 31 }
 }
 
 // The level of one input; where there is none, the amplifier is at rest.
@@ -35,11 +24,11 @@ fn mixer_average(topology: MixingTopology, sum: f32) -> f32
     sum * topology.mixer_input_reciprocal
 }
 
-// The mixer's output for the sum of its inputs; 0, and nothing is read, for a count that has no curve.
+// The mixer's output for the sum of its inputs; 0, and no curve is read, for more than seven.
 pub fn mixer_transfer(curves: &[u8], slot: u8, topology: MixingTopology, input_sum: f32) -> f32
     ensures { λ r. ⌜ r ≡ T.mixerTransferOf (now (curves .entry)) slot topology «input_sum» ⌝ }
 {
-    if mixable(topology.mixer_input_count) {
+    if topology.mixer_input_count <= 7 {
         return curves::sample_curve(curves, slot, mixer_average(topology, input_sum));
     }
     0.0
@@ -49,10 +38,10 @@ pub fn mixer_transfer(curves: &[u8], slot: u8, topology: MixingTopology, input_s
 pub fn judge_mixer(curves: &[u8], slot: u8, topology: MixingTopology, input_sum: f32) -> Answer
     ensures { λ r. ⌜ r ≡ T.judgeMixerOf (now (curves .entry)) slot topology «input_sum» ⌝ }
 {
-    if mixable(topology.mixer_input_count) {
-        return curves::judge_sample_curve(curves, slot, mixer_average(topology, input_sum));
+    if 7 < topology.mixer_input_count {
+        return Answer::Argument;
     }
-    Answer::Argument
+    curves::judge_sample_curve(curves, slot, mixer_average(topology, input_sum))
 }
 
 // ---- volume_transfer
