@@ -383,7 +383,8 @@ fn constants(coefficients: &FilterCoefficients) -> Vec<[u32; 5]> {
 
 // ---- Answers
 
-/// The table of refusals, in which 9 is unused: number, buffer and place of two answers, then those of the first that refuses, with what its row names.
+/// The table of refusals, in which 9 is unused: number, buffer and place of two answers, then those of the first that refuses, with what
+/// its row names.
 fn answers() -> Vec<[u32; 9]> {
     let mut random = Random::of("answers");
     let numbers = || (0..=10).filter(|&number| number != 9);
