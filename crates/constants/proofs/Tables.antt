@@ -15,7 +15,7 @@ zero-over-zero-nan : zero-over-zero ≡ nan
 unfolding div ofBits
 zero-over-zero-nan = refl
 
-none-of-past : (n i : ℕ) → NoneOf n i → n ≤ i
+pub none-of-past : (n i : ℕ) → NoneOf n i → n ≤ i
 none-of-past zero i w = omega arith
 none-of-past (suc n) i w =
     let before = none-of-past n i (w .0) in

@@ -1,2 +1,3 @@
+pub mod Routing
 pub mod Facts
 pub mod Laws

@@ -1,2 +1,3 @@
 pub mod Topology
+pub mod Routing
 pub mod Line

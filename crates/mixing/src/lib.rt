@@ -3,6 +3,7 @@ ghost use mathlib.Core.Path.{_≡_};
 ghost use Prim.Native.Nat.{_+_, _*_, _/_, _%_, _<_, _≤_};
 ghost use lib.Dec.{eqb};
 ghost use Rattle.mixing.specs.Topology.{one as oneOf, reciprocalOf, topologyOf};
+ghost use Rattle.mixing.specs.Routing.{filterFlagsOf};
 ghost use Rattle.mixing.specs.Line.{digit as digitOf, flag as flagOf, lineOf};
 
 // Flags for voices 1 to 3 and the external input; what is worked out from them, so that a sample need not.
@@ -27,6 +28,38 @@ fn bit(n: u8, weight: u8) -> bool
     ensures { λ r. ⌜ r ≡ eqb (n / weight % 2) 1 ⌝ }
 {
     n / weight % 2 == 1
+}
+
+// Through the filter, the data sheet's 1.
+const I: bool = true;
+
+// Past it, the sheet's 0.
+const O: bool = false;
+
+// The inputs that a routing sends through the filter, to be laid beside the data sheet's register 23, RES/FILT. A nibble is as the
+// sheet prints it, bit 3 on the left: FILTEX, FILT 3, FILT 2, FILT 1. Its row has the same bits the other way round, from bit 0 on:
+// voice 1, voice 2, voice 3, external input. Of a larger byte the low nibble counts.
+fn filter_flags(routing: u8) -> [bool; 4]
+    ensures { λ r. ⌜ r ≡ filterFlagsOf routing ⌝ }
+{
+    match routing % 16 {
+        0b0000 => [O, O, O, O],
+        0b0001 => [I, O, O, O],
+        0b0010 => [O, I, O, O],
+        0b0011 => [I, I, O, O],
+        0b0100 => [O, O, I, O],
+        0b0101 => [I, O, I, O],
+        0b0110 => [O, I, I, O],
+        0b0111 => [I, I, I, O],
+        0b1000 => [O, O, O, I],
+        0b1001 => [I, O, O, I],
+        0b1010 => [O, I, O, I],
+        0b1011 => [I, I, O, I],
+        0b1100 => [O, O, I, I],
+        0b1101 => [I, O, I, I],
+        0b1110 => [O, I, I, I],
+        0b1111 | _ => [I, I, I, I],
+    }
 }
 
 fn one(b: bool) -> usize
@@ -64,13 +97,13 @@ impl MixingTopology {
     pub fn update(routing: u8, mode: u8) -> Self
         ensures { λ r. ⌜ r ≡ topologyOf routing mode ⌝ }
     {
-        let f0 = bit(routing, 1);
-        let f1 = bit(routing, 2);
-        let f2 = bit(routing, 4);
-        let f3 = bit(routing, 8);
+        let filter_membership = filter_flags(routing);
+        let f0 = filter_membership[0];
+        let f1 = filter_membership[1];
+        let f2 = filter_membership[2];
+        let f3 = filter_membership[3];
         let voice_three_off = bit(mode, 8);
         let b2 = !f2 & !voice_three_off;
-        let filter_membership = [f0, f1, f2, f3];
         let bypass_membership = [!f0, !f1, b2, !f3];
         let filter_input_count = count(f0, f1, f2, f3);
         let bypass_input_count = count(!f0, !f1, b2, !f3);

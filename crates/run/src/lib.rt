@@ -211,6 +211,8 @@ fn play_samples(
     ensures { λ r. ⌜ r ≡ W.rowEnd start before (P.samplesFrom (lentOf (now (bundle .entry)) (now (curves .entry))) state (now (script .entry)) count start) ⌝ }
     ensures { λ _. ⌜ now (output .exit) ≡ P.samplesPut (now (output .entry)) before (P.samplesFrom (lentOf (now (bundle .entry)) (now (curves .entry))) state (now (script .entry)) count start) ⌝ }
 {
+    let input_drives = constants::input_drives();
+    let feedback_drives = constants::feedback_drives();
     let parts = parts_of(bundle, state, gain, summer_rest);
     let topology = parts.topology;
     let gains = parts.gains;
@@ -219,8 +221,6 @@ fn play_samples(
     let slot = sample::summer_slot(topology);
     let registers = state.registers;
     let from = state.integrator;
-    let input_drives = constants::input_drives();
-    let feedback_drives = constants::feedback_drives();
     let mut integrator = from;
     let mut earlier = from;
     let mut samples = before;

@@ -10,27 +10,27 @@ use Rattle.run.proofs.play_samples.Statement.{statement}
 use Rattle.run.proofs.play_samples.Tie as tie
 
 abbrev Inv-loop : tie.InvT-loop
-Inv-loop bundle curves gain script start count output₀ before parts topology gains core rest slot registers input-drives feedback-drives
+Inv-loop bundle curves gain script start count output₀ before input-drives feedback-drives parts topology gains core rest slot registers
     integrator₀ earlier₀ samples₀ i₀ output integrator earlier samples i =
     Sofar (lentOf bundle curves) (parts .topology) (cacheOfParts parts) (registers .mode) script count start before output₀ integrator₀ output integrator samples i
 
 abbrev μ-loop : tie.MeasureT-loop
-μ-loop bundle curves gain script start count output₀ before parts topology gains core rest slot registers input-drives feedback-drives
+μ-loop bundle curves gain script start count output₀ before input-drives feedback-drives parts topology gains core rest slot registers
     integrator₀ earlier₀ samples₀ i₀ output integrator earlier samples i =
     count - i
-
-parts-of-requires : tie.Need-parts-of-requires Inv-loop μ-loop
-parts-of-requires c κs =
-    c .before .before .before .before .pre .1 .1
-
-summer-slot-requires : tie.Need-summer-slot-requires Inv-loop μ-loop
-summer-slot-requires c κs = search needs
 
 input-drives-requires : tie.Need-input-drives-requires Inv-loop μ-loop
 input-drives-requires c κs = search needs
 
 feedback-drives-requires : tie.Need-feedback-drives-requires Inv-loop μ-loop
 feedback-drives-requires c κs = search needs
+
+parts-of-requires : tie.Need-parts-of-requires Inv-loop μ-loop
+parts-of-requires c κs =
+    c .before .before .before .before .before .before .pre .1 .1
+
+summer-slot-requires : tie.Need-summer-slot-requires Inv-loop μ-loop
+summer-slot-requires c κs = search needs
 
 loop-holds : tie.Need-loop-holds Inv-loop μ-loop
 loop-holds c =
@@ -83,8 +83,8 @@ put-outputs-requires c κs =
     let s = o .before .before in
     let l = s .before .before .before .before .before .before .before .before .before .before .before in
     outputs-finite _ _ _ _ _ _ _ _ _ _ _
-    (s .sample-from-parts .ensures ∙ parts-sample _ _ (l .before .before .before .before .before .before .before .before .before .parts-of .ensures) _
-    (l .before .before .input-drives .ensures) (l .before .feedback-drives .ensures) (l .before .before .before .before .before .summer-slot .ensures) _ _ _)
+    (s .sample-from-parts .ensures ∙ parts-sample _ _ (l .before .before .before .before .before .before .before .parts-of .ensures) _
+    (l .before .before .before .before .before .before .before .before .before .input-drives .ensures) (l .before .before .before .before .before .before .before .before .feedback-drives .ensures) (l .before .before .before .summer-slot .ensures) _ _ _)
     (o .outputs .given .1)
 
 add-samples : tie.Need-add-samples Inv-loop μ-loop
@@ -118,8 +118,8 @@ loop-again c =
     rw (c .before .before .put-outputs .ensures)
     (turned _ _ _ _ _ _ _ _ _ _ _ _ _ _ (l .loop .inv) (e .before .loop-test .taken) (v .event .given .0 .0) (sym (e .event-at .ensures) ∙ v .event .given .1)
     (s .before .before .before .before .before .asks .ensures) (s .before .before .before .before .if1 .taken) _ _
-    (s .sample-from-parts .ensures ∙ parts-sample _ _ (l .before .before .before .before .before .before .before .before .before .parts-of .ensures) _
-    (l .before .before .input-drives .ensures) (l .before .feedback-drives .ensures) (l .before .before .before .before .before .summer-slot .ensures) _ _ _)
+    (s .sample-from-parts .ensures ∙ parts-sample _ _ (l .before .before .before .before .before .before .before .parts-of .ensures) _
+    (l .before .before .before .before .before .before .before .before .before .input-drives .ensures) (l .before .before .before .before .before .before .before .before .feedback-drives .ensures) (l .before .before .before .summer-slot .ensures) _ _ _)
     (o .outputs .given .1))
 
 enum-known-answer : tie.Need-enum-known-answer Inv-loop μ-loop
@@ -134,11 +134,11 @@ returns-2 c =
     let v = s .before .before .before .before .before .before .before in
     let e = v .before .before in
     let l = e .before .before in
-    rw (← l .before .before .before .before .before .before .before .before .before .parts-of .ensures)
+    rw (← l .before .before .before .before .before .before .before .parts-of .ensures)
     (refused _ _ _ _ _ _ _ _ _ _ _ _ _ _ (l .loop .inv) (e .before .loop-test .taken) (v .event .given .0 .0) (sym (e .event-at .ensures) ∙ v .event .given .1)
     (s .before .before .before .before .before .asks .ensures) (s .before .before .before .before .if1 .taken) _
-    (s .sample-from-parts .ensures ∙ parts-sample _ _ (l .before .before .before .before .before .before .before .before .before .parts-of .ensures) _
-    (l .before .before .input-drives .ensures) (l .before .feedback-drives .ensures) (l .before .before .before .before .before .summer-slot .ensures) _ _ _)
+    (s .sample-from-parts .ensures ∙ parts-sample _ _ (l .before .before .before .before .before .before .before .parts-of .ensures) _
+    (l .before .before .before .before .before .before .before .before .before .input-drives .ensures) (l .before .before .before .before .before .before .before .before .feedback-drives .ensures) (l .before .before .before .summer-slot .ensures) _ _ _)
     (c .before .answer .given .1))
 
 same-length-3 : tie.Need-same-length-3 Inv-loop μ-loop
@@ -148,7 +148,7 @@ returns-3 : tie.Need-returns-3 Inv-loop μ-loop
 returns-3 c =
     let v = c .before .before .before in
     let e = v .before .before in
-    rw (← e .before .before .before .before .before .before .before .before .before .before .before .parts-of .ensures)
+    rw (← e .before .before .before .before .before .before .before .before .before .parts-of .ensures)
     (other _ _ _ _ _ _ _ _ _ _ _ _ _ _ (e .before .before .loop .inv) (e .before .loop-test .taken) (v .event .given .0 .0)
     (sym (e .event-at .ensures) ∙ v .event .given .1) (c .before .asks .ensures) (c .if1 .left))
 
@@ -157,7 +157,7 @@ same-length-4 c = search needs
 
 returns-4 : tie.Need-returns-4 Inv-loop μ-loop
 returns-4 c =
-    rw (← c .before .before .before .before .before .before .before .before .before .before .parts-of .ensures) (at-end _ _ _ _ _ _ _ _ _ _ _ _ _ _ (c .before .loop .inv) (c .loop-test .left))
+    rw (← c .before .before .before .before .before .before .before .before .parts-of .ensures) (at-end _ _ _ _ _ _ _ _ _ _ _ _ _ _ (c .before .loop .inv) (c .loop-test .left))
 
 pub play-samples-spec : {M : Type 1} → statement M
 play-samples-spec =
@@ -165,10 +165,10 @@ play-samples-spec =
     (tie.spec
     Inv-loop
     μ-loop
-    parts-of-requires
-    summer-slot-requires
     input-drives-requires
     feedback-drives-requires
+    parts-of-requires
+    summer-slot-requires
     loop-holds
     mul-event-at
     add-event-at
