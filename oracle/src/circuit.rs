@@ -180,11 +180,12 @@ fn mode_gain() -> Tally {
     tally
 }
 
-/// What is left over from the last update is overwritten: one topology of the Rust's serves all.
+/// All 65,536 pairs of bytes: of a routing or a mode above 15 both sides take the low nibble. What is left over from the last update is overwritten: one
+/// topology of the Rust's serves all.
 fn topology() -> Tally {
     let (mut tally, mut theirs) = (Tally::default(), MixingTopology::new());
-    for nibbles in 0..=255u8 {
-        let (routing, mode) = (nibbles / 16, nibbles % 16);
+    for pair in 0..=u16::MAX {
+        let [routing, mode] = pair.to_be_bytes();
         let ours = proved::probe_topology(routing, mode);
         theirs.update(routing, mode);
         tally.same(ours.filter_membership, theirs.filter_membership);

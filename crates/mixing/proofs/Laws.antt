@@ -11,26 +11,19 @@ use Rattle.mixing.specs.declared.MixingTopology.{MixingTopology}
 use Rattle.response.specs.Bits.{bit}
 use Rattle.wire.specs.Text.{ascii}
 use Rattle.mixing.specs.Topology.{one, reciprocalOf, filterCountOf, bypassCountOf, outputCountOf, mixerCountOf, topologyOf}
-use Rattle.mixing.specs.Routing.{filterFlagsOf}
 use Rattle.mixing.specs.Line.{digit, flag, lineOf}
-use Rattle.mixing.proofs.Routing.{flags-are-bits}
 use Rattle.mixing.proofs.Facts.{filter-most, bypass-most, output-most, mixer-most}
 
-abbrev flagAt : List Bool → ℕ → Bool
-flagAt flags i = getD flags i false
-
 -- f are the flags of the filter, o is voice 3 off, m the mode's outputs; n, b and q are the counts
-pub topology-told : (routing mode : ℕ) {f : List Bool} {o m0 m1 m2 : Bool} {n b q u v : ℕ} {x y z : Float}
-    → f ≡ filterFlagsOf routing → o ≡ bit mode 3 → m0 ≡ bit mode 0 → m1 ≡ bit mode 1 → m2 ≡ bit mode 2
-    → n ≡ one (flagAt f 0) + one (flagAt f 1) + one (flagAt f 2) + one (flagAt f 3)
-    → b ≡ one (not (flagAt f 0)) + one (not (flagAt f 1)) + one (not (flagAt f 2) && not o) + one (not (flagAt f 3)) → q ≡ one m0 + one m1 + one m2 + 0
+pub topology-told : (routing mode : ℕ) {f0 f1 f2 f3 o m0 m1 m2 : Bool} {n b q u v : ℕ} {x y z : Float}
+    → f0 ≡ bit routing 0 → f1 ≡ bit routing 1 → f2 ≡ bit routing 2 → f3 ≡ bit routing 3 → o ≡ bit mode 3 → m0 ≡ bit mode 0 → m1 ≡ bit mode 1 → m2 ≡ bit mode 2
+    → n ≡ one f0 + one f1 + one f2 + one f3 → b ≡ one (not f0) + one (not f1) + one (not f2 && not o) + one (not f3) → q ≡ one m0 + one m1 + one m2 + 0
     → x ≡ reciprocalOf n → y ≡ reciprocalOf (2 + n) → z ≡ reciprocalOf (b + q)
-    → u ≡ one (flagAt f 0) + 2 * one (flagAt f 1) + 4 * one (flagAt f 2)
-    → v ≡ one (not (flagAt f 0)) + 2 * one (not (flagAt f 1)) + 4 * one (not (flagAt f 2) && not o)
+    → u ≡ one f0 + 2 * one f1 + 4 * one f2 → v ≡ one (not f0) + 2 * one (not f1) + 4 * one (not f2 && not o)
     → _≡_ {A = MixingTopology}
     (record {
-      «filter_membership» = f;
-      «bypass_membership» = not (flagAt f 0) ∷ not (flagAt f 1) ∷ (not (flagAt f 2) && not o) ∷ not (flagAt f 3) ∷ [];
+      «filter_membership» = f0 ∷ f1 ∷ f2 ∷ f3 ∷ [];
+      «bypass_membership» = not f0 ∷ not f1 ∷ (not f2 && not o) ∷ not f3 ∷ [];
       «filter_input_count» = n;
       «bypass_input_count» = b;
       «filter_output_count» = q;
@@ -43,12 +36,12 @@ pub topology-told : (routing mode : ℕ) {f : List Bool} {o m0 m1 m2 : Bool} {n 
     })
     (topologyOf routing mode)
 unfolding topologyOf filterCountOf bypassCountOf outputCountOf mixerCountOf
-topology-told routing mode f o m0 m1 m2 n b q x y z u v =
-    simp (x, y, z, u, v, n, b, q, f, flags-are-bits routing, o, m0, m1, m2, and-true, add-zero)
+topology-told routing mode f0 f1 f2 f3 o m0 m1 m2 n b q x y z u v =
+    simp (x, y, z, u, v, n, b, q, f0, f1, f2, f3, o, m0, m1, m2, and-true, add-zero)
 
 -- what `line` puts together is the line: f and b are the flags, d the digits
 abbrev member : List Bool → ℕ → ℕ
-member flags i = flag (flagAt flags i)
+member flags i = flag (getD flags i false)
 
 pub line-told : (routing mode : ℕ) {t : MixingTopology} {f0 f1 f2 f3 b0 b1 b2 b3 d0 d1 d2 d3 : ℕ} → t ≡ topologyOf routing mode
     → f0 ≡ member (t .«filter_membership») 0 → f1 ≡ member (t .«filter_membership») 1 → f2 ≡ member (t .«filter_membership») 2 → f3 ≡ member (t .«filter_membership») 3

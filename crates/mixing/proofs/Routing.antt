@@ -1,6 +1,6 @@
 -- Every routing nibble's row is the data sheet's bits. Assumes nothing.
 use mathlib.Core.Path.{_≡_, refl, ap, _∙_}
-use mathlib.Core.Bool.{Bool}
+use mathlib.Core.Bool.{Bool, false}
 use mathlib.Core.List.{List, [], _∷_}
 use Prim.Native.Nat.{ℕ, zero, suc, _+_, _/_, _%_, _<_}
 use native.Mathlib.Nat.{add-zero, zero-add, add-suc, suc-add, le-of-suc-le-suc, not-suc-le-zero, mod-lt}
@@ -51,6 +51,9 @@ low-bits routing = simp (bit0, bit1, bit2, bit3)
 -- so every routing, also a byte of 16 or more, has the flags of its bits
 pub flags-are-bits : (routing : ℕ) → filterFlagsOf routing ≡ flagsOf (filteredOf routing)
 flags-are-bits routing = low-row routing ∙ low-bits routing
+
+pub flag-is-bit : (routing i : ℕ) {row : List Bool} → row ≡ filterFlagsOf routing → getD row i false ≡ getD (flagsOf (filteredOf routing)) i false
+flag-is-bit routing i e = rw (e, flags-are-bits routing) refl
 
 -- what an arm of `filter_flags` gives; the last one is of no other nibble
 pub row-at : (routing n : ℕ) → routing % 16 ≡ n → getD filterRows n [] ≡ filterFlagsOf routing

@@ -97,13 +97,14 @@ impl MixingTopology {
     pub fn update(routing: u8, mode: u8) -> Self
         ensures { λ r. ⌜ r ≡ topologyOf routing mode ⌝ }
     {
-        let filter_membership = filter_flags(routing);
-        let f0 = filter_membership[0];
-        let f1 = filter_membership[1];
-        let f2 = filter_membership[2];
-        let f3 = filter_membership[3];
+        let row = filter_flags(routing);
+        let f0 = row[0];
+        let f1 = row[1];
+        let f2 = row[2];
+        let f3 = row[3];
         let voice_three_off = bit(mode, 8);
         let b2 = !f2 & !voice_three_off;
+        let filter_membership = [f0, f1, f2, f3];
         let bypass_membership = [!f0, !f1, b2, !f3];
         let filter_input_count = count(f0, f1, f2, f3);
         let bypass_input_count = count(!f0, !f1, b2, !f3);

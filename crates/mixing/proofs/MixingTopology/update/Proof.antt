@@ -1,4 +1,5 @@
 use borrow.Author.Needs.{needs}
+use Rattle.mixing.proofs.Routing.{flag-is-bit}
 use Rattle.mixing.proofs.Laws.{topology-told}
 use Rattle.mixing.proofs.MixingTopology.update.Statement.{statement}
 use Rattle.mixing.proofs.MixingTopology.update.Tie as tie
@@ -75,8 +76,10 @@ returns c =
     let b1 = k1 .before in
     let f = b1 .before in
     let a = f .before .args in
-    topology-told (a .routing) (a .mode) (f .filter-flags .ensures) (b1 .bit .ensures) (b2 .bit2 .ensures) (b3 .bit3 .ensures) (b4 .bit4 .ensures)
-    (k1 .count .ensures .0) (k2 .count2 .ensures .0) (k3 .count3 .ensures .0) (r1 .reciprocal .ensures) (r2 .reciprocal2 .ensures) (r3 .reciprocal3 .ensures) (m1 .mask .ensures) (c .mask2 .ensures)
+    let row = f .filter-flags .ensures in
+    topology-told (a .routing) (a .mode) (flag-is-bit (a .routing) 0 row) (flag-is-bit (a .routing) 1 row) (flag-is-bit (a .routing) 2 row) (flag-is-bit (a .routing) 3 row)
+    (b1 .bit .ensures) (b2 .bit2 .ensures) (b3 .bit3 .ensures) (b4 .bit4 .ensures) (k1 .count .ensures .0) (k2 .count2 .ensures .0) (k3 .count3 .ensures .0)
+    (r1 .reciprocal .ensures) (r2 .reciprocal2 .ensures) (r3 .reciprocal3 .ensures) (m1 .mask .ensures) (c .mask2 .ensures)
 
 pub update-spec : {M : Type 1} → statement M
 update-spec =
