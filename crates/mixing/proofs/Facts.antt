@@ -53,6 +53,11 @@ pub output-most : (mode : ℕ) → outputCountOf mode ≤ 3
 unfolding outputCountOf
 output-most mode = omega (arith, one-most (bit mode 0), one-most (bit mode 1), one-most (bit mode 2))
 
+-- `filter_count` counts what the topology counts
+pub filter-counted : (routing mode : ℕ) → topologyOf routing mode .«filter_input_count» ≡ filterCountOf routing
+unfolding topologyOf
+filter-counted routing mode = refl
+
 -- four past the filter and three outputs make seven
 pub mixer-most : (routing mode : ℕ) → mixerCountOf routing mode ≤ 7
 unfolding mixerCountOf

@@ -9,7 +9,7 @@ use lib.ListN.{getD}
 use Rattle.constants.specs.Tables.{NoneOf}
 use Rattle.constants.proofs.Tables.{none-of-past}
 use Rattle.response.specs.Bits.{bit}
-use Rattle.mixing.specs.Topology.{flagsOf, filteredOf}
+use Rattle.mixing.specs.Topology.{flagsOf, countOf, filteredOf, filterCountOf}
 use Rattle.mixing.specs.Routing.{filterRows, filterFlagsOf}
 
 -- the flags of n nibbles from this one on, each worked out from its bits
@@ -54,6 +54,11 @@ flags-are-bits routing = low-row routing ∙ low-bits routing
 
 pub flag-is-bit : (routing i : ℕ) {row : List Bool} → row ≡ filterFlagsOf routing → getD row i false ≡ getD (flagsOf (filteredOf routing)) i false
 flag-is-bit routing i e = rw (e, flags-are-bits routing) refl
+
+-- and their count is the bits'
+pub row-count : (routing : ℕ) {row : List Bool} → row ≡ filterFlagsOf routing → countOf (λ i. getD row i false) ≡ filterCountOf routing
+unfolding filterCountOf
+row-count routing e = rw (e, flags-are-bits routing) refl
 
 -- what an arm of `filter_flags` gives; the last one is of no other nibble
 pub row-at : (routing n : ℕ) → routing % 16 ≡ n → getD filterRows n [] ≡ filterFlagsOf routing

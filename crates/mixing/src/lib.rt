@@ -2,7 +2,7 @@
 ghost use mathlib.Core.Path.{_≡_};
 ghost use Prim.Native.Nat.{_+_, _*_, _/_, _%_, _<_, _≤_};
 ghost use lib.Dec.{eqb};
-ghost use Rattle.mixing.specs.Topology.{one as oneOf, reciprocalOf, topologyOf};
+ghost use Rattle.mixing.specs.Topology.{one as oneOf, filterCountOf, reciprocalOf, topologyOf};
 ghost use Rattle.mixing.specs.Routing.{filterFlagsOf};
 ghost use Rattle.mixing.specs.Line.{digit as digitOf, flag as flagOf, lineOf};
 
@@ -72,6 +72,14 @@ fn count(a: bool, b: bool, c: bool, d: bool) -> usize
     ensures { λ r. ⌜ (r ≡ oneOf a + oneOf b + oneOf c + oneOf d) × (r ≤ 4) ⌝ }
 {
     one(a) + one(b) + one(c) + one(d)
+}
+
+// How many inputs a routing sends through the filter, without the rest of its topology.
+pub fn filter_count(routing: u8) -> usize
+    ensures { λ r. ⌜ r ≡ filterCountOf routing ⌝ }
+{
+    let row = filter_flags(routing);
+    count(row[0], row[1], row[2], row[3])
 }
 
 fn mask(a: bool, b: bool, c: bool) -> u8

@@ -14,6 +14,8 @@ use Rattle.wire.specs.Wire.{putAt}
 use Rattle.wire.proofs.Laws.{length-putAt, putAt-nil, putAt-join}
 use Rattle.integrator.specs.declared.IntegratorState.{IntegratorState}
 use Rattle.mixing.specs.declared.MixingTopology.{MixingTopology}
+use Rattle.mixing.specs.Topology.{filterCountOf}
+use Rattle.mixing.proofs.Facts.{filter-counted}
 use Rattle.control.specs.declared.State.{State}
 use Rattle.control.specs.Registers.{startingState, writeCutoffLowOf, writeCutoffHighOf, writeSignalRoutingOf, writeModeAndVolumeOf}
 use Rattle.control.specs.Block.{validOf}
@@ -541,8 +543,12 @@ module _ (lent : Lent) (script : List ℕ) (count : ℕ) (s₀ : State) (out₀ 
 pub rest-told : (bundle : List ℕ) {n : ℕ} {r : Resting} → r ≡ restingOf bundle n → r ≡ restingOf bundle (r .inputs)
 rest-told bundle {n} {r} h = h ∙ ap (restingOf bundle) (sym (ap (λ (x : Resting). x .inputs) h))
 
-pub rest-here : (bundle : List ℕ) (s : State) {t : MixingTopology} {r : Resting} → r ≡ restingOf bundle (t .«filter_input_count») → t ≡ freshTopologyOf s → r .rest ≡ restOf bundle (freshTopologyOf s)
-rest-here bundle s h is = rw (h, is) refl
+pub rest-stays : (bundle : List ℕ) (s : State) {old : Resting} {n : ℕ} → old ≡ restingOf bundle (old .inputs) → n ≡ filterCountOf (s .registers .routing) → n ≡ old .inputs
+    → old ≡ restingOf bundle (freshTopologyOf s .«filter_input_count»)
+rest-stays bundle s told counted same = told ∙ ap (restingOf bundle) (sym same ∙ counted ∙ sym (filter-counted (s .registers .routing) (s .registers .mode)))
+
+pub rest-here : (bundle : List ℕ) (s : State) {r : Resting} → r ≡ restingOf bundle (freshTopologyOf s .«filter_input_count») → r .rest ≡ restOf bundle (freshTopologyOf s)
+rest-here bundle s h = rw h refl
 
 pub moves-gain : (bundle : List ℕ) (i : ℕ) (w : Moves) {m : Moved} → m ≡ movesEnd bundle i w → m .gain ≡ (stateGainOf bundle (m .state))
 moves-gain bundle i w h = rw h refl

@@ -10,6 +10,7 @@ ghost use Rattle.refresh.specs.Refresh.{refreshCoreOf};
 ghost use Rattle.sample.specs.Sample.{outputsFinite};
 ghost use Rattle.script.specs.Script.{eventsOf};
 ghost use Rattle.filter.specs.Lent.{lentOf, judgeLentOf};
+ghost use Rattle.filter.specs.Core.{freshTopologyOf};
 ghost use Rattle.run.specs.Run as R;
 ghost use Rattle.run.specs.Rows as W;
 ghost use Rattle.run.specs.Parts as P;
@@ -145,15 +146,16 @@ fn resting_of(bundle: &[u8], topology: MixingTopology) -> Resting
     }
 }
 
-// The same from an older one: it stays where the count of inputs does.
-fn resting_from(bundle: &[u8], old: Resting, topology: MixingTopology) -> Resting
+// The same of a state, from an older one: it stays where the count of inputs does, and the topology is then not worked out.
+fn resting_at(bundle: &[u8], old: Resting, state: State) -> Resting
     requires { ⌜ old ≡ P.restingOf (now bundle) (old .inputs) ⌝ }
-    ensures { λ r. ⌜ r ≡ P.restingOf (now (bundle .entry)) (topology .«filter_input_count») ⌝ }
+    ensures { λ r. ⌜ r ≡ P.restingOf (now (bundle .entry)) (freshTopologyOf state .«filter_input_count») ⌝ }
 {
-    if topology.filter_input_count == old.inputs {
+    let registers = state.registers;
+    if mixing::filter_count(registers.routing) == old.inputs {
         return old;
     }
-    resting_of(bundle, topology)
+    resting_of(bundle, filter::fresh_topology(state))
 }
 
 // ---- other events
@@ -383,7 +385,7 @@ fn play(
                 state,
             };
         }
-        resting = resting_from(bundle, resting, filter::fresh_topology(state));
+        resting = resting_at(bundle, resting, state);
         let rest = resting.rest;
         let row = play_samples(
             bundle,

@@ -54,16 +54,13 @@ returns c =
     moves-stop _ _ _ _ _ (l .before .before .before .before .before .before .before .pre .1 .1 .0 .ready) _ _ _ _ (l .loop .inv .far) (p .play-changes .ensures)
     (d .is-done .ensures) (not-true (d .is-done .result) (c .if1 .taken))
 
-fresh-topology-requires-2 : tie.Need-fresh-topology-requires-2 Inv-loop μ-loop
-fresh-topology-requires-2 c κs = search needs
-
-resting-from-requires : tie.Need-resting-from-requires Inv-loop μ-loop
-resting-from-requires c κs = c .before .before .before .before .before .before .loop .inv .rested
+resting-at-requires : tie.Need-resting-at-requires Inv-loop μ-loop
+resting-at-requires c κs = c .before .before .before .before .before .loop .inv .rested
 
 play-samples-requires : tie.Need-play-samples-requires Inv-loop μ-loop
 play-samples-requires c κs =
     let r = c .before in
-    let e = r .before .before in
+    let e = r .before in
     let d = e .before in
     let m = d .before .before in
     let l = m .before .before in
@@ -74,7 +71,7 @@ play-samples-requires c κs =
       record { within = then .within; few = l .before .before .before .before .before .before .before .pre .0 .few; readable = then .readable },
       (
         record { fewer = then .few; room = then .room },
-        record { gained = moves-gain _ _ _ (m .play-changes .ensures); rested = rest-here _ (m .play-changes .result .state) (r .resting-from .ensures) (r .before .fresh-topology2 .ensures) },
+        record { gained = moves-gain _ _ _ (m .play-changes .ensures); rested = rest-here _ (m .play-changes .result .state) (r .resting-at .ensures) },
       ),
     )
 
@@ -84,12 +81,12 @@ is-done-requires-2 c κs = search needs
 same-length-2 : tie.Need-same-length-2 Inv-loop μ-loop
 same-length-2 c =
     let p = c .before .before .before .before .before in
-    ap length (p .play-samples .ensures .1) ∙ length-putAt _ _ _ ∙ p .before .before .before .before .before .before .before .before .before .loop .inv .far .long
+    ap length (p .play-samples .ensures .1) ∙ length-putAt _ _ _ ∙ p .before .before .before .before .before .before .before .before .loop .inv .far .long
 
 returns-2 : tie.Need-returns-2 Inv-loop μ-loop
 returns-2 c =
     let p = c .before .before .before .before .before in
-    let e = p .before .before .before .before in
+    let e = p .before .before .before in
     let d = e .before in
     let m = d .before .before in
     let l = m .before .before in
@@ -102,7 +99,7 @@ returns-2 c =
 loop-less : tie.Need-loop-less Inv-loop μ-loop
 loop-less c =
     let p = c .before .before .before .before .before in
-    let e = p .before .before .before .before in
+    let e = p .before .before .before in
     let d = e .before in
     let m = d .before .before in
     let l = m .before .before in
@@ -119,7 +116,7 @@ loop-less c =
 loop-again : tie.Need-loop-again Inv-loop μ-loop
 loop-again c =
     let p = c .before .before .before .before .before in
-    let e = p .before .before .before .before in
+    let e = p .before .before .before in
     let d = e .before in
     let m = d .before .before in
     let l = m .before .before in
@@ -130,7 +127,7 @@ loop-again c =
     record {
       far = row-goes _ _ _ _ _ ready _ _ _ _ then (p .play-samples .ensures .0) (p .play-samples .ensures .1) (c .before .is-done2 .ensures) (not-false (c .before .is-done2 .result) (c .if2 .left));
       gained = moves-gain _ _ _ (m .play-changes .ensures);
-      rested = rest-told _ (p .before .before .resting-from .ensures);
+      rested = rest-told _ (p .before .before .resting-at .ensures);
     }
 
 same-length-3 : tie.Need-same-length-3 Inv-loop μ-loop
@@ -152,8 +149,7 @@ play-spec =
     is-done-requires
     same-length
     returns
-    fresh-topology-requires-2
-    resting-from-requires
+    resting-at-requires
     play-samples-requires
     is-done-requires-2
     same-length-2
