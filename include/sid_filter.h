@@ -16,7 +16,7 @@ extern "C" {
 #endif
 
 /* The version of this library; CHANGELOG.md says what each one changed. */
-#define SID_FILTER_VERSION "0.3.2"
+#define SID_FILTER_VERSION "0.4.0"
 
 /* Units.
  *

@@ -1,6 +1,7 @@
 //! The integrator, the response and the topology.
 
 use crate::integrator::IntegratorState;
+use crate::line;
 use crate::mixing::MixingTopology;
 use crate::numbers::{Random, Tally};
 use crate::response::*;
@@ -190,10 +191,7 @@ fn topology() -> Tally {
         theirs.update(routing, mode);
         tally.same(ours.filter_membership, theirs.filter_membership);
         tally.same(ours.bypass_membership, theirs.bypass_membership);
-        tally.same(
-            ours.counts,
-            [theirs.filter_input_count, theirs.bypass_input_count, theirs.filter_output_count, theirs.mixer_input_count],
-        );
+        tally.same(ours.counts, line::counts(&theirs));
         tally.same_float(ours.reciprocals[0], theirs.filter_input_reciprocal);
         tally.same_float(ours.reciprocals[1], theirs.summer_input_reciprocal);
         tally.same_float(ours.reciprocals[2], theirs.mixer_input_reciprocal);
@@ -206,22 +204,12 @@ fn topology() -> Tally {
 /// The program topology_line prints this line for the nibbles of its two bytes: all 65,536 pairs of bytes.
 fn line() -> Tally {
     let (mut tally, mut theirs) = (Tally::default(), MixingTopology::new());
-    let flags = |flags: [bool; 4]| flags.map(|flag| if flag { '1' } else { '0' }).iter().collect::<String>();
     for registers in 0..=u16::MAX {
         let (routing, mode) = (registers as u8 % 16, (registers >> 12) as u8);
         let mut ours = [0; 39];
         unsafe { proved::probe_line(routing, mode, ours.as_mut_ptr(), ours.len()) };
         theirs.update(routing, mode);
-        let line = format!(
-            "filter {} bypass {} counts {} {} {} {}\n",
-            flags(theirs.filter_membership),
-            flags(theirs.bypass_membership),
-            theirs.filter_input_count,
-            theirs.bypass_input_count,
-            theirs.filter_output_count,
-            theirs.mixer_input_count
-        );
-        tally.same(&ours[..], line.as_bytes());
+        tally.same(&ours[..], line::line(&theirs).as_bytes());
     }
     tally
 }

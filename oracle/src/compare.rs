@@ -10,6 +10,7 @@ mod core;
 mod direct;
 mod events;
 mod kept;
+mod line;
 mod numbers;
 mod plain;
 mod run;

@@ -6,6 +6,7 @@
 include!("sid.rs");
 
 mod kept;
+mod line;
 mod song;
 
 use constants::*;
@@ -59,6 +60,7 @@ fn main() {
     for (name, bytes) in song::files(&mut filter) {
         write_bytes(name, &bytes);
     }
+    std::fs::write("routing_sheet.txt", routing_sheet()).expect("routing_sheet.txt");
 
     sums();
 }
@@ -756,19 +758,33 @@ fn topology() -> Vec<[u32; 19]> {
             let (routing, mode) = (pair >> 4, pair & 15);
             let mut topology = MixingTopology::new();
             topology.update(routing, mode);
-            let counts =
-                [topology.filter_input_count, topology.bypass_input_count, topology.filter_output_count, topology.mixer_input_count];
             let reciprocals = [topology.filter_input_reciprocal, topology.summer_input_reciprocal, topology.mixer_input_reciprocal];
             joined([
                 &[routing.into(), mode.into()],
                 &topology.filter_membership.map(u32::from),
                 &topology.bypass_membership.map(u32::from),
-                &counts.map(|count| count as u32),
+                &line::counts(&topology).map(|count| count as u32),
                 &reciprocals.map(word),
                 &[topology.filter_internal_mask.into(), topology.bypass_internal_mask.into()],
             ])
         })
         .collect()
+}
+
+/// What the program `routing_sheet` prints: the line of every routing and mode nibble, and the totals of the counts.
+fn routing_sheet() -> String {
+    let (mut sheet, mut totals, mut topology) = (String::new(), [0; 4], MixingTopology::new());
+    for routing in 0..16 {
+        for mode in 0..16 {
+            topology.update(routing, mode);
+            sheet += &format!("{routing} {mode} {}", line::line(&topology));
+            for (total, count) in totals.iter_mut().zip(line::counts(&topology)) {
+                *total += count;
+            }
+        }
+    }
+    let [filter, bypass, output, mixer] = totals;
+    sheet + &format!("total {filter} {bypass} {output} {mixer}\n")
 }
 
 // ---- Ladder

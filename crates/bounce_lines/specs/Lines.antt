@@ -7,7 +7,7 @@ use Rattle.answers.specs.declared.Answer.{Answer}
 use Rattle.answers.specs.declared.Answer.the-variants.{Done, BundleLength, Header, Entry, CurvesLength, InputNotFinite, Domain, Script, OutputLength, Argument}
 use Rattle.answers.specs.Answers.{numberOf, isDoneOf}
 use Rattle.wire.specs.Text.{ascii}
-use Rattle.bounce_lines.specs.Text.{decimalOf}
+use Rattle.text.specs.Text.{decimalOf}
 
 -- Words, and the place of which they speak.
 unfoldable pub placedOf : List ℕ → ℕ → List ℕ

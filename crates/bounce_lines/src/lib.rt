@@ -1,12 +1,12 @@
 // What bounce says, as text in a lent buffer, and what it asks of the names of files.
 mod lines;
-mod text;
 
 ghost use mathlib.Core.Path.{_≡_};
 ghost use mathlib.Core.List.{_++_};
 ghost use Rattle.io.specs.Counts.{Counts};
 ghost use Rattle.wire.specs.Text.{ascii};
-ghost use Rattle.bounce_lines.specs.Text.{grown, grownEnd, sameNameOf};
+ghost use Rattle.text.specs.Text.{grown, grownEnd};
+ghost use Rattle.bounce_lines.specs.Names.{sameNameOf};
 pub use lines::refused_line;
 pub use lines::script_line;
 use text::push;

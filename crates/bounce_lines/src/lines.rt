@@ -3,12 +3,12 @@ ghost use mathlib.Core.Path.{_≡_};
 ghost use Prim.Native.Nat.{_≤_};
 ghost use lib.ListN.{length};
 ghost use Rattle.io.specs.Counts.{Counts};
-ghost use Rattle.bounce_lines.specs.Text.{grown, grownEnd};
+ghost use Rattle.text.specs.Text.{grown, grownEnd};
 ghost use Rattle.bounce_lines.specs.Lines.{placedOf, wordsOf, countsOf, refusalOf, refusedLineOf, scriptLineOf};
-use crate::text::push;
-use crate::text::push_number;
 use answers::Answer;
 use answers::Buffer;
+use text::push;
+use text::push_number;
 
 // The text with words and a place after it.
 fn push_placed(out: &mut [u8], at: usize, words: &[u8], place: u32) -> usize

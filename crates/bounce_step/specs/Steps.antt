@@ -5,7 +5,7 @@ use Rattle.answers.specs.Answers.{numberOf}
 use Rattle.filter.specs.Lent.{Lent}
 use Rattle.run.specs.Run.{Run, runOf}
 use Rattle.bounce_step.specs.declared.Stepped.{Stepped}
-use Rattle.bounce_lines.specs.Text.{grown, grownEnd}
+use Rattle.text.specs.Text.{grown, grownEnd}
 use Rattle.bounce_lines.specs.Lines.{scriptLineOf}
 
 pub record Step : Type 0 where

@@ -1,5 +1,5 @@
 use borrow.Author.Needs.{needs}
-use Rattle.bounce_lines.proofs.Laws.{grown-then}
+use Rattle.text.proofs.Laws.{grown-then}
 use Rattle.bounce_lines.proofs.beside.Statement.{statement}
 use Rattle.bounce_lines.proofs.beside.Tie as tie
 

@@ -3,7 +3,7 @@ use Prim.Native.Nat.{_-_, _≤_}
 use mathlib.Core.Path.{_≡_, refl, sym, _∙_}
 use lib.ListN.{length, drop}
 use borrow.Author.Needs.{needs}
-use Rattle.bounce_lines.specs.Text.{sameNameOf}
+use Rattle.bounce_lines.specs.Names.{sameNameOf}
 use Rattle.bounce_lines.proofs.Laws.{names-unlike, names-on, names-off, names-end}
 use Rattle.bounce_lines.proofs.same_name.Statement.{statement}
 use Rattle.bounce_lines.proofs.same_name.Tie as tie

@@ -1,7 +1,7 @@
 use borrow.Author.Needs.{needs}
-use Rattle.bounce_lines.proofs.Laws.{decimal-is}
-use Rattle.bounce_lines.proofs.text.push_number.Statement.{statement}
-use Rattle.bounce_lines.proofs.text.push_number.Tie as tie
+use Rattle.text.proofs.Laws.{decimal-is}
+use Rattle.text.proofs.push_number.Statement.{statement}
+use Rattle.text.proofs.push_number.Tie as tie
 
 decimal-requires : tie.Need-decimal-requires
 decimal-requires c κs = search needs

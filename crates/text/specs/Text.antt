@@ -1,8 +1,8 @@
--- Text in a buffer: a number in decimal, a buffer with text from a place on, and whether two names are the same.
+-- Text in a buffer: a number in decimal, and a buffer with text from a place on.
 use Prim.Native.Nat.{ℕ, zero, suc, _+_, _/_, _%_, min}
-use mathlib.Core.Bool.{Bool, true, false, cond, _&&_}
+use mathlib.Core.Bool.{cond}
 use mathlib.Core.List.{List, [], _∷_, _++_}
-use lib.Dec.{ltb, eqb}
+use lib.Dec.{ltb}
 use lib.ListN.{length, take, drop}
 use Rattle.io.specs.Digits.{glyph}
 
@@ -22,10 +22,3 @@ grown out at text = take (length out) (take at out ++ text ++ drop (at + length 
 -- Where the text ends.
 unfoldable pub grownEnd : List ℕ → ℕ → List ℕ → ℕ
 grownEnd out at text = min (at + length text) (length out)
-
--- Two names are the same where their bytes are.
-unfoldable pub sameNameOf : List ℕ → List ℕ → Bool
-sameNameOf [] [] = true
-sameNameOf (x ∷ a) (y ∷ b) = eqb x y && sameNameOf a b
-sameNameOf [] (y ∷ b) = false
-sameNameOf (x ∷ a) [] = false
