@@ -1,6 +1,6 @@
 -- Every pair of nibbles stands on the sheet just one time, and no other pair does. The totals cannot show this: 0, 1 and 0, 2 have the same counts, so
 -- that one of them twice and the other left out has the same totals (`alike`). Assumes nothing.
-use Prim.Native.Nat.{ℕ, zero, suc, _+_, _*_, _/_, _%_, _≤_, _<_}
+use Prim.Native.Nat.{ℕ, zero, suc, _+_, _*_, _≤_, _<_}
 use mathlib.Core.Path.{_≡_, refl, _∙_}
 use mathlib.Core.Logic.{⊎-elim}
 use mathlib.Core.Bool.{Bool, true, false, _&&_, and-false}
@@ -9,8 +9,8 @@ use lib.Dec.{eqb, ltb}
 use borrow.Author.Tests.{eqb-true, lt-ltb, le-ltb, eq-eqb, ne-eqb}
 use Rattle.wire.proofs.Laws.{le-or-lt}
 use Rattle.mixing.specs.Topology.{one, bypassCountOf, outputCountOf, mixerCountOf}
-use Rattle.routing_sheet.specs.Sheet.{firstPairs, allPairs, sumOver, timesIn}
-use Rattle.routing_sheet.proofs.Laws.{total-next}
+use Rattle.routing_sheet.specs.Sheet.{pairAt, firstPairs, allPairs, sumOver, timesIn}
+use Rattle.routing_sheet.proofs.Laws.{sum-next}
 
 pub alike : (bypassCountOf 0 1 ≡ bypassCountOf 0 2) × (outputCountOf 1 ≡ outputCountOf 2) × (mixerCountOf 0 1 ≡ mixerCountOf 0 2)
 unfolding bypassCountOf outputCountOf mixerCountOf
@@ -18,11 +18,11 @@ alike = (refl, refl, refl)
 
 -- pair k is r, m
 abbrev isPair : ℕ → ℕ → ℕ → Bool
-isPair r m k = eqb (k / 16) r && eqb (k % 16) m
+isPair r m k = eqb (pairAt k .0) r && eqb (pairAt k .1) m
 
 times-next : (r m k : ℕ) → timesIn r m (firstPairs (suc k)) ≡ timesIn r m (firstPairs k) + one (isPair r m k)
 unfolding timesIn
-times-next r m k = total-next (λ routing mode. one (eqb routing r && eqb mode m)) k
+times-next r m k = sum-next (λ routing mode. one (eqb routing r && eqb mode m)) k
 
 times-none : (r m : ℕ) → timesIn r m (firstPairs 0) ≡ 0
 unfolding timesIn sumOver firstPairs
@@ -31,14 +31,14 @@ times-none r m = refl
 -- of two nibbles that is pair 16 r + m alone
 module _ (r m : ℕ) (h : m < 16) where
   pair-here : (k : ℕ) → k ≡ 16 * r + m → isPair r m k ≡ true
-  pair-here k e = rw (eq-eqb (k / 16) r (omega arith), eq-eqb (k % 16) m (omega arith))
+  pair-here k e = rw (eq-eqb (pairAt k .0) r (omega arith), eq-eqb (pairAt k .1) m (omega arith))
 
   pair-elsewhere : (k : ℕ) → (k ≡ 16 * r + m → ⊥) → isPair r m k ≡ false
-  pair-elsewhere k n = go (eqb (k / 16) r) refl
+  pair-elsewhere k n = go (eqb (pairAt k .0) r) refl
     where
-      go : (b : Bool) → eqb (k / 16) r ≡ b → (b && eqb (k % 16) m) ≡ false
+      go : (b : Bool) → eqb (pairAt k .0) r ≡ b → (b && eqb (pairAt k .1) m) ≡ false
       go false e = refl
-      go true e = let outer = eqb-true (k / 16) r e in ne-eqb (k % 16) m (λ inner. n (omega (arith, outer, inner)))
+      go true e = let outer = eqb-true (pairAt k .0) r e in ne-eqb (pairAt k .1) m (λ inner. n (omega (arith, outer, inner)))
 
   once-more : (k : ℕ) → one (ltb (16 * r + m) k) + one (isPair r m k) ≡ one (ltb (16 * r + m) (suc k))
   once-more k =
@@ -58,7 +58,7 @@ module _ (r m : ℕ) (h : m < 16) where
 -- no remainder is 16 or more
 times-past : (r m : ℕ) → 16 ≤ m → (n : ℕ) → timesIn r m (firstPairs n) ≡ 0
 times-past r m h zero = times-none r m
-times-past r m h (suc k) = times-next r m k ∙ rw (times-past r m h k, ne-eqb (k % 16) m (λ e. omega arith), and-false)
+times-past r m h (suc k) = times-next r m k ∙ rw (times-past r m h k, ne-eqb (pairAt k .1) m (λ e. omega arith), and-false)
 
 pub each-once : (r m : ℕ) → r < 16 → m < 16 → timesIn r m allPairs ≡ 1
 unfolding allPairs

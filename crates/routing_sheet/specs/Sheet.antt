@@ -8,10 +8,14 @@ use Rattle.text.specs.Text.{decimalOf}
 use Rattle.mixing.specs.Topology.{one, filterCountOf, bypassCountOf, outputCountOf, mixerCountOf}
 use Rattle.mixing.specs.Line.{lineOf}
 
--- The first n pairs of a routing and a mode: routing outer, mode inner.
+-- Pair k, a routing and a mode: routing outer, mode inner.
+abbrev pub pairAt : ℕ → ℕ × ℕ
+pairAt k = (k / 16, k % 16)
+
+-- The first n pairs.
 unfoldable pub firstPairs : ℕ → List (ℕ × ℕ)
 firstPairs zero = []
-firstPairs (suc k) = firstPairs k ++ ((k / 16, k % 16) ∷ [])
+firstPairs (suc k) = firstPairs k ++ (pairAt k ∷ [])
 
 -- Routing 0 to 15, and with each mode 0 to 15.
 unfoldable pub allPairs : List (ℕ × ℕ)
