@@ -31,6 +31,7 @@ module _ (count : ℕ → ℕ → ℕ) where
   pub sums-next : (k : ℕ) {n c : ℕ} → Sums k n → c ≡ count (pairAt k .0) (pairAt k .1) → c ≤ 9 → Sums (k + 1) (n + c)
   sums-next k s e h = (rw (s .0, e, add-one) (sym (sum-next k)), omega (arith, s .1))
 
+-- two counts as those of a pair
 abbrev pub filterOfPair : ℕ → ℕ → ℕ
 filterOfPair routing mode = filterCountOf routing
 
@@ -38,10 +39,10 @@ abbrev pub outputOfPair : ℕ → ℕ → ℕ
 outputOfPair routing mode = outputCountOf mode
 
 -- what reaches the mixer goes past the filter or comes out of it
-mixer-total : (pairs : List (ℕ × ℕ)) → sumOver bypassCountOf pairs + sumOver outputOfPair pairs ≡ sumOver mixerCountOf pairs
+mixer-sum : (pairs : List (ℕ × ℕ)) → sumOver bypassCountOf pairs + sumOver outputOfPair pairs ≡ sumOver mixerCountOf pairs
 unfolding sumOver mixerCountOf
-mixer-total [] = refl
-mixer-total (pair ∷ pairs) = omega (arith, mixer-total pairs)
+mixer-sum [] = refl
+mixer-sum (pair ∷ pairs) = omega (arith, mixer-sum pairs)
 
 -- ---- lines
 
@@ -64,5 +65,5 @@ module _ (d e : List ℕ) (k at : ℕ) (g : Grew d 0 (linesOf (firstPairs k)) e 
       → Grew e at (totalLineOf f b o (b + o)) t r → Grew d 0 (sheetOf allPairs) t r
   unfolding sheetOf allPairs
   sheet-grew {t} {f} {b} {o} {r} all x y z h =
-      let told = rw (x .0, y .0, z .0, mixer-total (firstPairs k), all) at h in
+      let told = rw (x .0, y .0, z .0, mixer-sum (firstPairs k), all) at h in
       grown-then d e t 0 at r _ _ (omega arith) (rw all at g) told

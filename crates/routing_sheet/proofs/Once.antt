@@ -28,7 +28,7 @@ times-none : (r m : ℕ) → timesIn r m (firstPairs 0) ≡ 0
 unfolding timesIn sumOver firstPairs
 times-none r m = refl
 
--- of two nibbles that is pair 16 r + m alone
+-- for m below 16 that is pair 16 r + m alone
 module _ (r m : ℕ) (h : m < 16) where
   pair-here : (k : ℕ) → k ≡ 16 * r + m → isPair r m k ≡ true
   pair-here k e = rw (eq-eqb (pairAt k .0) r (omega arith), eq-eqb (pairAt k .1) m (omega arith))
