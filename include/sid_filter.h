@@ -16,7 +16,7 @@ extern "C" {
 #endif
 
 /* The version of this library; CHANGELOG.md says what each one changed. */
-#define SID_FILTER_VERSION "0.4.0"
+#define SID_FILTER_VERSION "0.5.0"
 
 /* Units.
  *
@@ -39,7 +39,7 @@ extern "C" {
  * -0.112, -0.136, and selected moves with it.
  *
  * The volume and voice 3 off (register 24, bits 0 to 3 and 7) change no sample: they act behind the filter, in the mixer and the volume
- * DAC, which no call has yet. */
+ * DAC, which sid_filter_mixer and sid_filter_volume ask by themselves. */
 #define SID_FILTER_CLOCK_HZ 985248
 #define SID_FILTER_VOICE_REST 0.45085025f
 #define SID_FILTER_VOICE_SWING 0.15015182f
@@ -133,6 +133,46 @@ sid_filter_answer sid_filter_build_curves(const uint8_t *bundle, size_t bundle_l
  * on from the state that the last one left. */
 sid_filter_answer sid_filter_run(const uint8_t *bundle, size_t bundle_len, const uint8_t *curves, size_t curves_len,
     uint8_t *state, size_t state_len, const uint8_t *script, size_t script_len, uint8_t *output, size_t output_len);
+
+/* Where on a curve an amplifier stands. Its input, 0 to 1, lies between two of the curve's entries:
+ *
+ *   index     the lower of the two, 0 to 2,047; the other is the next one
+ *   fraction  how far it lies from that entry towards the next, 0 or more and below 1; an input of -0.0 has -0.0
+ *   value     what the amplifier gives: entry + (next entry - entry) x fraction, and the summer less its output at rest
+ *
+ * An input of 1 or above has index 2,047 and fraction 0, one below 0 has index 0 and fraction 0. The five calls below read what is lent and
+ * write nothing. A refused one has zeros beside its answer. */
+typedef struct {
+    sid_filter_answer answer;
+    float value;
+    uint32_t index;
+    float fraction;
+} sid_filter_point;
+
+/* A curve at an input. The curves are numbered: 0 to 6 the summer's, by its inputs, 7 to 14 the mixer's, by its inputs from 0 on, 15 to 30
+ * the volume DAC's, by the volume from 0 on. Refused: the curve buffer's length (4), a number above 30 or an input that is not finite (10),
+ * an unusable entry (3, buffer 1, place), a value that is not finite (6). */
+sid_filter_point sid_filter_sample_curve(const uint8_t *curves, size_t curves_len, uint32_t curve, float input);
+
+/* The summer of a routing nibble, for the sum of the levels that are routed into the filter. Refused: the bundle's length (1) and header
+ * (2, place), the curve buffer's length (4), a routing above 15 (10), a sum that is not finite (5), an unusable entry (3, buffer, place), a
+ * value that is not finite (6). */
+sid_filter_point sid_filter_summer(const uint8_t *bundle, size_t bundle_len, const uint8_t *curves, size_t curves_len, uint8_t routing,
+    float sum);
+
+/* The mixer of a routing and a mode nibble, for the sum of its inputs: the levels beside the filter, and selected. One without an input
+ * stands at rest, whatever the sum. Refused: the curve buffer's length (4), a nibble above 15 or a sum that is not finite (10), an unusable
+ * entry (3, buffer 1, place), a value that is not finite (6). */
+sid_filter_point sid_filter_mixer(const uint8_t *curves, size_t curves_len, uint8_t routing, uint8_t mode, float sum);
+
+/* The volume DAC at a volume of 0 to 15, for the mixer's output. Refused as the mixer is, a volume above 15 with 10. */
+sid_filter_point sid_filter_volume(const uint8_t *curves, size_t curves_len, uint8_t volume, float value);
+
+/* Where the summer stands for a sample of the state in `state`, which stays as it is: value is what the filter is fed, and all three are 0
+ * where the sample is idle and so reads no curve. To show where the last sample stood, ask with the state before it. Refused as that sample
+ * is: 1, 2 and 4 of what is lent, 10 of the state block, then 5, then 3 and 6 of the controls, then 3 and 6 of the sample. */
+sid_filter_point sid_filter_sample_point(const uint8_t *bundle, size_t bundle_len, const uint8_t *curves, size_t curves_len,
+    const uint8_t *state, size_t state_len, float sum, float energy);
 
 #ifdef __cplusplus
 }

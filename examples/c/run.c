@@ -1,5 +1,5 @@
 /* Opens a bundle, builds its curves and runs a small script: uncut, cut into two pieces, with a sample that is refused, and with too short
- * an output.
+ * an output; and asks where on its curve the last sample stood.
  *
  * usage: run BUNDLE */
 #include "sid_filter.h"
@@ -126,6 +126,15 @@ int main(int argc, char **argv)
     good &= print_answer("second piece", run(other_state, events + 3 * EVENT, EVENTS - 3, other_output, SAMPLES), SID_FILTER_DONE);
     int same = memcmp(state, other_state, sizeof state) == 0 && memcmp(output, other_output, sizeof output) == 0;
     printf("  %s\n", same ? "the same samples and state" : "DIFFERS");
+
+    /* Where on its curve the summer stood in the last sample: asked with the state before it, which stays as it is. */
+    const uint8_t *last = events + (EVENTS - 1) * EVENT;
+    memset(other_state, 0, sizeof other_state);
+    good &= print_answer("before the last", run(other_state, events, EVENTS - 1, other_output, SAMPLES), SID_FILTER_DONE);
+    sid_filter_point point = sid_filter_sample_point(bundle, sizeof bundle, curves, sizeof curves, other_state, sizeof other_state,
+        get_f32(last + 4), get_f32(last + 8));
+    good &= print_answer("point", point.answer, SID_FILTER_DONE);
+    printf("  index %lu  fraction %.7f  value % .7f\n", (unsigned long)point.index, point.fraction, point.value);
 
     /* An infinite sum in the fourth sample: the run stops there, with three samples written. */
     memset(other_state, 0, sizeof other_state);

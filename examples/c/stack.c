@@ -50,6 +50,37 @@ static void run_script(void)
         sizeof output);
 }
 
+static void sample_curve(void)
+{
+    frame = __builtin_frame_address(0);
+    answer = sid_filter_sample_curve(curves, sizeof curves, 0, SID_FILTER_VOICE_REST).answer;
+}
+
+static void summer(void)
+{
+    frame = __builtin_frame_address(0);
+    answer = sid_filter_summer(bundle, sizeof bundle, curves, sizeof curves, 1, SID_FILTER_VOICE_REST).answer;
+}
+
+static void mixer(void)
+{
+    frame = __builtin_frame_address(0);
+    answer = sid_filter_mixer(curves, sizeof curves, 1, 1, SID_FILTER_VOICE_REST).answer;
+}
+
+static void volume(void)
+{
+    frame = __builtin_frame_address(0);
+    answer = sid_filter_volume(curves, sizeof curves, 15, SID_FILTER_VOICE_REST).answer;
+}
+
+static void sample_point(void)
+{
+    frame = __builtin_frame_address(0);
+    state[8] = 1; /* voice 1 is routed */
+    answer = sid_filter_sample_point(bundle, sizeof bundle, curves, sizeof curves, state, sizeof state, SID_FILTER_VOICE_REST, 0).answer;
+}
+
 /* Every kind of event, in every routing and mode. */
 static void write_script(void)
 {
@@ -83,14 +114,14 @@ static size_t taken(void (*call)(void), uint8_t pattern)
     return (size_t)(frame - deepest);
 }
 
-/* Prints the most that a call takes: done, and refused for the bundle's header, where the check of the header takes more; each with two
- * patterns, since a byte may be written as it was. Says whether the answers were these. */
-static int print_taken(const char *name, void (*call)(void))
+/* Prints the most that a call takes: done, and with a wrong header of the bundle, where the check of the header takes more and a call that
+ * is lent the bundle is refused; each with two patterns, since a byte may be written as it was. Says whether the answers were these. */
+static int print_taken(const char *name, void (*call)(void), uint32_t refused)
 {
     size_t most = 0;
     for (int i = 0; i < 4; i++) {
-        uint32_t number = i < 2 ? SID_FILTER_DONE : SID_FILTER_HEADER;
-        uint8_t wrong = number == SID_FILTER_HEADER;
+        uint8_t wrong = i >= 2;
+        uint32_t number = wrong ? refused : SID_FILTER_DONE;
         bundle[55] ^= wrong;
         size_t bytes = taken(call, i % 2 ? 0xaa : 0x55);
         bundle[55] ^= wrong;
@@ -111,7 +142,12 @@ int main(void)
         return 1;
     }
     write_script();
-    int good = print_taken("sid_filter_open", open_bundle) && print_taken("sid_filter_build_curves", build_curves) &&
-        print_taken("sid_filter_run", run_script);
+    int good = print_taken("sid_filter_open", open_bundle, SID_FILTER_HEADER) &&
+        print_taken("sid_filter_build_curves", build_curves, SID_FILTER_HEADER) &&
+        print_taken("sid_filter_run", run_script, SID_FILTER_HEADER) &&
+        print_taken("sid_filter_sample_curve", sample_curve, SID_FILTER_DONE) &&
+        print_taken("sid_filter_summer", summer, SID_FILTER_HEADER) && print_taken("sid_filter_mixer", mixer, SID_FILTER_DONE) &&
+        print_taken("sid_filter_volume", volume, SID_FILTER_DONE) &&
+        print_taken("sid_filter_sample_point", sample_point, SID_FILTER_HEADER);
     return good ? 0 : 1;
 }

@@ -13,6 +13,8 @@ mod kept;
 mod line;
 mod numbers;
 mod plain;
+mod points;
+mod ruler;
 mod run;
 mod sample;
 mod state;
@@ -24,6 +26,7 @@ fn main() {
     subjects.extend(surface::compare());
     subjects.extend(sample::compare());
     subjects.extend(direct::compare());
+    subjects.extend(points::compare());
     subjects.extend(core::compare());
     subjects.extend(run::compare());
     subjects.extend(events::compare());

@@ -4,7 +4,9 @@ use crate::filter::Filter;
 use crate::integrator::IntegratorState;
 use crate::mixing::MixingTopology;
 use crate::numbers::{word, Random, Tally, DAMAGES};
+use crate::points;
 use crate::response::*;
+use crate::ruler::{rulers, told, Ruled};
 use crate::surface::{curves_of, data, surface_of, CURVES_LENGTH};
 use crate::tables::AnalogueTransferSurface;
 
@@ -16,6 +18,20 @@ pub mod proved {
         pub buffer: u32,
         pub place: u32,
         pub value: f32,
+    }
+
+    #[repr(C)]
+    pub struct PointReply {
+        reply: Reply,
+        index: u32,
+        fraction: f32,
+    }
+
+    impl PointReply {
+        fn pointed(self) -> super::Pointed {
+            let Reply { number, buffer, place, value } = self.reply;
+            ((number, buffer, place), [value.to_bits(), self.index, self.fraction.to_bits()])
+        }
     }
 
     #[repr(C)]
@@ -60,9 +76,15 @@ pub mod proved {
 
     #[link(name = "probe", kind = "static")]
     unsafe extern "C" {
-        fn probe_direct_summer(bundle: *const u8, bundle_len: usize, curves: *const u8, curves_len: usize, t: Topology, sum: f32) -> Reply;
-        fn probe_direct_mixer(curves: *const u8, curves_len: usize, t: Topology, sum: f32) -> Reply;
-        fn probe_direct_volume(curves: *const u8, curves_len: usize, volume: u8, value: f32) -> Reply;
+        fn probe_direct_summer(
+            bundle: *const u8,
+            bundle_len: usize,
+            curves: *const u8,
+            curves_len: usize,
+            t: Topology,
+            sum: f32,
+        ) -> PointReply;
+        fn probe_direct_mixer(curves: *const u8, curves_len: usize, t: Topology, sum: f32) -> PointReply;
         fn probe_any_summer(bundle: *const u8, bundle_len: usize, curves: *const u8, curves_len: usize, t: Topology, sum: f32) -> f32;
         fn probe_any_mixer(curves: *const u8, curves_len: usize, t: Topology, sum: f32) -> f32;
         fn probe_any_volume(curves: *const u8, curves_len: usize, volume: u8, value: f32) -> f32;
@@ -77,16 +99,12 @@ pub mod proved {
         pub safe fn probe_direct_common_mode(mode: u8, cutoff: u16) -> Reply;
     }
 
-    pub fn summer(bundle: &[u8], curves: &[u8], t: Topology, sum: f32) -> Reply {
-        unsafe { probe_direct_summer(bundle.as_ptr(), bundle.len(), curves.as_ptr(), curves.len(), t, sum) }
+    pub fn summer(bundle: &[u8], curves: &[u8], t: Topology, sum: f32) -> super::Pointed {
+        unsafe { probe_direct_summer(bundle.as_ptr(), bundle.len(), curves.as_ptr(), curves.len(), t, sum) }.pointed()
     }
 
-    pub fn mixer(curves: &[u8], t: Topology, sum: f32) -> Reply {
-        unsafe { probe_direct_mixer(curves.as_ptr(), curves.len(), t, sum) }
-    }
-
-    pub fn volume(curves: &[u8], volume: u8, value: f32) -> Reply {
-        unsafe { probe_direct_volume(curves.as_ptr(), curves.len(), volume, value) }
+    pub fn mixer(curves: &[u8], t: Topology, sum: f32) -> super::Pointed {
+        unsafe { probe_direct_mixer(curves.as_ptr(), curves.len(), t, sum) }.pointed()
     }
 
     pub fn any_summer(bundle: &[u8], curves: &[u8], t: Topology, sum: f32) -> f32 {
@@ -109,13 +127,14 @@ pub mod proved {
 pub fn compare() -> Vec<(&'static str, Tally)> {
     let bundle = data("bundle");
     let mut filter = Filter::new();
+    let mut ruled = Ruled::new();
     let curves = curves_of(&filter);
     vec![
-        ("direct summer_transfer", summer(&bundle, &curves, &mut filter)),
-        ("direct mixer_transfer", mixer(&curves, &mut filter)),
-        ("direct volume_transfer", volume(&curves, &mut filter)),
+        ("direct summer_transfer", summer(&bundle, &curves, &mut filter, &mut ruled)),
+        ("direct mixer_transfer", mixer(&curves, &mut filter, &mut ruled)),
+        ("direct volume_transfer", volume(&curves, &mut filter, &mut ruled)),
         ("direct transfers on damaged entries", damaged(&bundle, &curves)),
-        ("direct calls on wrong buffers", wrong_buffers(&bundle, &curves, &mut filter)),
+        ("direct calls on wrong buffers", wrong_buffers(&bundle, &curves, &mut filter, &mut ruled)),
         ("direct saturate", saturate()),
         ("direct advance", advance()),
         ("direct mixing_topology", topology()),
@@ -146,7 +165,7 @@ const EDGES: [f32; 16] = [
 ];
 
 /// Mostly any number, else an edge.
-fn float(random: &mut Random) -> f32 {
+pub fn float(random: &mut Random) -> f32 {
     match random.bits() {
         bits if bits % 8 == 0 => EDGES[(bits >> 8) as usize % 16],
         _ => random.float(),
@@ -225,7 +244,7 @@ pub fn summer_average(t: &MixingTopology, sum: f32) -> f32 {
     (sum + 2.0 * filter_mode_quiescent_level()) * t.summer_input_reciprocal
 }
 
-fn summer_refused(bundle: &[u8], curves: &[u8], t: &MixingTopology, sum: f32) -> Option<Told> {
+pub fn summer_refused(bundle: &[u8], curves: &[u8], t: &MixingTopology, sum: f32) -> Option<Told> {
     let count = t.filter_input_count;
     bundle_refused(bundle)
         .or_else(|| unless(curves.len() == CURVES_LENGTH, 4))
@@ -243,13 +262,13 @@ fn mixer_average(t: &MixingTopology, sum: f32) -> f32 {
     }
 }
 
-fn mixer_refused(curves: &[u8], t: &MixingTopology, sum: f32) -> Option<Told> {
+pub fn mixer_refused(curves: &[u8], t: &MixingTopology, sum: f32) -> Option<Told> {
     unless(curves.len() == CURVES_LENGTH, 4)
         .or_else(|| unless(t.mixer_input_count < 8 && t.mixer_input_reciprocal.is_finite() && sum.is_finite(), 10))
         .or_else(|| entries_refused(curves, 1, &curve_places(7 + t.mixer_input_count, mixer_average(t, sum))))
 }
 
-fn volume_refused(curves: &[u8], volume: u8, value: f32) -> Option<Told> {
+pub fn volume_refused(curves: &[u8], volume: u8, value: f32) -> Option<Told> {
     unless(curves.len() == CURVES_LENGTH, 4)
         .or_else(|| unless(volume < 16 && value.is_finite(), 10))
         .or_else(|| entries_refused(curves, 1, &curve_places(15 + usize::from(volume), value)))
@@ -275,46 +294,81 @@ fn same(tally: &mut Tally, ours: proved::Reply, refused: Option<Told>, theirs: i
     tally.same(ours.value.to_bits(), value.to_bits());
 }
 
+/// Number, buffer and place of a point; its value, index and fraction.
+pub type Pointed = (Told, [u32; 3]);
+
+/// The same for a point: the Rust's value, and index and fraction at which it read the curve.
+pub fn same_point(tally: &mut Tally, ours: Pointed, refused: Option<Told>, theirs: impl FnOnce() -> (f32, (u32, f32))) {
+    let theirs = match refused {
+        Some(told) => (told, [0; 3]),
+        None => match theirs() {
+            (value, (index, fraction)) if value.is_finite() => ((0, 0, 0), [value.to_bits(), index, fraction.to_bits()]),
+            _ => ((6, 0, 0), [0; 3]),
+        },
+    };
+    tally.same(ours.0, theirs.0);
+    tally.same(ours.1, theirs.1);
+}
+
 // ---- summer, mixer and volume
 
-fn summer(bundle: &[u8], curves: &[u8], filter: &mut Filter) -> Tally {
+/// The Rust's summer and mixer on a topology.
+fn summer_of(filter: &mut Filter, t: &MixingTopology, sum: f32) -> f32 {
+    *filter.topology() = *t;
+    filter.summer(sum)
+}
+
+fn mixer_of(filter: &mut Filter, t: &MixingTopology, sum: f32) -> f32 {
+    *filter.topology() = *t;
+    filter.mixer(sum)
+}
+
+/// The Rust's volume DAC.
+pub fn volume_of(filter: &mut Filter, volume: u8, value: f32) -> f32 {
+    filter.registers().volume = volume;
+    filter.volume(value)
+}
+
+fn summer(bundle: &[u8], curves: &[u8], filter: &mut Filter, ruled: &mut Ruled) -> Tally {
     let (mut tally, mut random) = (Tally::default(), Random(30));
     for _ in 0..1_000_000 {
         let (t, sum) = (any_topology(&mut random), float(&mut random));
-        *filter.topology() = t;
         if t.filter_input_count < 5 {
-            tally.same_float(proved::any_summer(bundle, curves, lent(&t), sum), filter.summer(sum));
+            tally.same_float(proved::any_summer(bundle, curves, lent(&t), sum), summer_of(filter, &t, sum));
         }
         let refused = summer_refused(bundle, curves, &t, sum);
-        same(&mut tally, proved::summer(bundle, curves, lent(&t), sum), refused, || filter.summer(sum));
+        same_point(&mut tally, proved::summer(bundle, curves, lent(&t), sum), refused, || {
+            (summer_of(filter, &t, sum), ruled.told(|filter| summer_of(filter, &t, sum)))
+        });
     }
     tally
 }
 
-fn mixer(curves: &[u8], filter: &mut Filter) -> Tally {
+fn mixer(curves: &[u8], filter: &mut Filter, ruled: &mut Ruled) -> Tally {
     let (mut tally, mut random) = (Tally::default(), Random(31));
     for _ in 0..1_000_000 {
         let (t, sum) = (any_topology(&mut random), float(&mut random));
-        *filter.topology() = t;
         // There is no curve for more than seven inputs, and none is read.
-        let theirs = if t.mixer_input_count < 8 { filter.mixer(sum) } else { 0.0 };
+        let theirs = if t.mixer_input_count < 8 { mixer_of(filter, &t, sum) } else { 0.0 };
         tally.same_float(proved::any_mixer(curves, lent(&t), sum), theirs);
-        same(&mut tally, proved::mixer(curves, lent(&t), sum), mixer_refused(curves, &t, sum), || filter.mixer(sum));
+        same_point(&mut tally, proved::mixer(curves, lent(&t), sum), mixer_refused(curves, &t, sum), || {
+            (mixer_of(filter, &t, sum), ruled.told(|filter| mixer_of(filter, &t, sum)))
+        });
     }
     tally
 }
 
-fn volume(curves: &[u8], filter: &mut Filter) -> Tally {
+fn volume(curves: &[u8], filter: &mut Filter, ruled: &mut Ruled) -> Tally {
     let (mut tally, mut random) = (Tally::default(), Random(32));
     for turn in 0..1_000_000 {
         let (volume, value) = (if turn % 64 == 0 { random.bits() as u8 } else { turn as u8 % 18 }, float(&mut random));
-        filter.registers().volume = volume;
         if volume < 16 {
-            tally.same_float(proved::any_volume(curves, volume, value), filter.volume(value));
+            tally.same_float(proved::any_volume(curves, volume, value), volume_of(filter, volume, value));
         }
-        same(&mut tally, proved::volume(curves, volume, value), volume_refused(curves, volume, value), || filter.volume(value));
+        same_point(&mut tally, points::proved::volume(curves, volume, value), volume_refused(curves, volume, value), || {
+            (volume_of(filter, volume, value), ruled.told(|filter| volume_of(filter, volume, value)))
+        });
     }
-    filter.registers().volume = 0;
     tally
 }
 
@@ -332,7 +386,7 @@ fn curve(curves: &[u8], number: usize) -> [f32; 2049] {
 fn damaged(bundle: &[u8], curves: &[u8]) -> Tally {
     let (mut tally, mut random) = (Tally::default(), Random(33));
     let (mut bundle, mut curves) = (bundle.to_vec(), curves.to_vec());
-    let (whole_bundle, whole_curves, surface) = (bundle.clone(), curves.clone(), surface_of(&bundle));
+    let (whole_bundle, whole_curves, surface, rulers) = (bundle.clone(), curves.clone(), surface_of(&bundle), rulers());
     for turn in 0..90_000 {
         let count = (random.bits() % 16) as usize;
         let mut t = MixingTopology::new();
@@ -357,23 +411,27 @@ fn damaged(bundle: &[u8], curves: &[u8]) -> Tally {
         for shift in [-0.5, 0.0, 0.5] {
             let input = (index as f32 + shift) / 2047.0;
             let sampled = |average: f32| AnalogueTransferSurface::sample_curve(&curve(&curves, number), average);
+            let place = |average: f32| told(|ruler| AnalogueTransferSurface::sample_curve(&rulers[ruler], average));
             match turn % 3 {
                 0 => {
                     let sum = input - 2.0 * filter_mode_quiescent_level();
                     let refused = summer_refused(&bundle, &curves, &t, sum);
-                    same(&mut tally, proved::summer(&bundle, &curves, lent(&t), sum), refused, || {
+                    same_point(&mut tally, proved::summer(&bundle, &curves, lent(&t), sum), refused, || {
                         let surface = other.as_ref().unwrap_or(&surface);
                         let resting = surface.sample((2 + t.filter_input_count) as f32, filter_mode_quiescent_level());
-                        sampled(summer_average(&t, sum)) - resting
+                        let average = summer_average(&t, sum);
+                        (sampled(average) - resting, place(average))
                     });
                 }
                 1 => {
                     let refused = mixer_refused(&curves, &t, input);
-                    same(&mut tally, proved::mixer(&curves, lent(&t), input), refused, || sampled(mixer_average(&t, input)));
+                    let average = mixer_average(&t, input);
+                    same_point(&mut tally, proved::mixer(&curves, lent(&t), input), refused, || (sampled(average), place(average)));
                 }
                 _ => {
                     let refused = volume_refused(&curves, count as u8, input);
-                    same(&mut tally, proved::volume(&curves, count as u8, input), refused, || sampled(input));
+                    let ours = points::proved::volume(&curves, count as u8, input);
+                    same_point(&mut tally, ours, refused, || (sampled(input), place(input)));
                 }
             }
         }
@@ -388,17 +446,21 @@ fn damaged(bundle: &[u8], curves: &[u8]) -> Tally {
 }
 
 /// Every other value of a header byte, and lengths beside the right ones, with arguments that are refused and with others.
-fn wrong_buffers(bundle: &[u8], curves: &[u8], filter: &mut Filter) -> Tally {
+fn wrong_buffers(bundle: &[u8], curves: &[u8], filter: &mut Filter, ruled: &mut Ruled) -> Tally {
     let (mut tally, mut random) = (Tally::default(), Random(34));
     let (mut bundle, mut curves) = (bundle.to_vec(), curves.to_vec());
     let mut all = |bundle: &[u8], curves: &[u8], random: &mut Random| {
         let (t, x, bits) = (any_topology(random), float(random), random.bits());
         let (mode, resonance, cutoff) = (bits as u8 % 18, (bits >> 8) as u8 % 18, (bits >> 16) as u16 % 2100);
-        *filter.topology() = t;
-        filter.registers().volume = mode;
-        same(&mut tally, proved::summer(bundle, curves, lent(&t), x), summer_refused(bundle, curves, &t, x), || filter.summer(x));
-        same(&mut tally, proved::mixer(curves, lent(&t), x), mixer_refused(curves, &t, x), || filter.mixer(x));
-        same(&mut tally, proved::volume(curves, mode, x), volume_refused(curves, mode, x), || filter.volume(x));
+        same_point(&mut tally, proved::summer(bundle, curves, lent(&t), x), summer_refused(bundle, curves, &t, x), || {
+            (summer_of(filter, &t, x), ruled.told(|filter| summer_of(filter, &t, x)))
+        });
+        same_point(&mut tally, proved::mixer(curves, lent(&t), x), mixer_refused(curves, &t, x), || {
+            (mixer_of(filter, &t, x), ruled.told(|filter| mixer_of(filter, &t, x)))
+        });
+        same_point(&mut tally, points::proved::volume(curves, mode, x), volume_refused(curves, mode, x), || {
+            (volume_of(filter, mode, x), ruled.told(|filter| volume_of(filter, mode, x)))
+        });
         same(&mut tally, proved::mode_gain(bundle, mode, resonance, cutoff), gain_refused(bundle, mode, resonance, cutoff), || {
             filter_mode_output_gain(mode, usize::from(resonance), cutoff)
         });

@@ -7,6 +7,7 @@ include!("sid.rs");
 
 mod kept;
 mod line;
+mod ruler;
 mod song;
 
 use constants::*;
@@ -15,12 +16,14 @@ use integrator::IntegratorState;
 use kept::{block, control_words, step_cutoff};
 use mixing::MixingTopology;
 use response::*;
+use ruler::{rulers, told, Ruled};
 use tables::*;
 
 fn main() {
     let coefficients = build_filter_coefficients();
     let surface = build_analogue_transfer_surface();
     let mut filter = Filter::new();
+    let mut ruled = Ruled::new();
     let bundle = bundle(&coefficients, &surface);
     write("bundle", &bundle);
 
@@ -57,6 +60,8 @@ fn main() {
     save("writes", writes(&mut filter));
     save("controls", controls(&mut filter));
     save("filter_sample", filter_samples(&mut filter));
+    save("transfers", transfers(&mut filter, &mut ruled));
+    save("sample_point", sample_points(&mut filter, &mut ruled));
     for (name, bytes) in song::files(&mut filter) {
         write_bytes(name, &bytes);
     }
@@ -897,16 +902,30 @@ fn curves(filter: &Filter) -> Vec<&[f32; 2049]> {
     curves.summer.iter().chain(&curves.mixer).chain(&curves.volume).map(Box::as_ref).collect()
 }
 
-fn sample_curve(filter: &Filter) -> Vec<[u32; 3]> {
+/// Number, value, index and fraction. What is refused has its number and zeros.
+fn point(number: u32, value: f32, (index, fraction): (u32, f32)) -> [u32; 4] {
+    match number {
+        0 => [0, word(value), index, word(fraction)],
+        _ => [number, 0, 0, 0],
+    }
+}
+
+/// Every curve at the ends, each step of the input and others; and numbers that are no curve's, some of them one's in their lowest byte.
+fn sample_curve(filter: &Filter) -> Vec<[u32; 6]> {
     let mut random = Random::of("sample_curve");
-    let curves = curves(filter);
-    let mut cases: Vec<(usize, f32)> = (0..31).flat_map(|curve| ENDS.map(|input| (curve, input))).collect();
-    cases.extend((0..2048).map(|step| (random.below(31) as usize, step as f32 / 2047.0)));
-    cases.extend((0..1200).map(|_| (random.below(31) as usize, random.between(-0.1, 1.1))));
-    cases
-        .into_iter()
-        .map(|(curve, input)| [curve as u32, word(input), word(AnalogueTransferSurface::sample_curve(curves[curve], input))])
-        .collect()
+    let (curves, rulers) = (curves(filter), rulers());
+    let mut cases: Vec<(u32, f32)> = (0..31).flat_map(|curve| ENDS.map(|input| (curve, input))).collect();
+    cases.extend((0..2048).map(|step| (random.below(31), step as f32 / 2047.0)));
+    cases.extend((0..1200).map(|_| (random.below(31), random.between(-0.1, 1.1))));
+    cases.extend([31, 255, 256, 259, 286, 287, 65_539, 1 << 31, u32::MAX].map(|curve| (curve, 0.5)));
+    let at = |(curve, input): (u32, f32)| match curves.get(curve as usize) {
+        Some(entries) if input.is_finite() => {
+            let place = told(|ruler| AnalogueTransferSurface::sample_curve(&rulers[ruler], input));
+            point(0, AnalogueTransferSurface::sample_curve(entries, input), place)
+        }
+        _ => point(10, 0.0, (0, 0.0)),
+    };
+    cases.into_iter().map(|case| joined([&[case.0, word(case.1)], &at(case)])).collect()
 }
 
 /// Every entry of the 31 curves, by its number among the words of the lent buffer.
@@ -1023,6 +1042,15 @@ fn state_floats(filter: &mut Filter, random: &mut Random, number: usize) -> [f32
     }
 }
 
+/// A sum and an energy as the filter meets them, now and then one of them an edge.
+fn any_input(random: &mut Random, edges: &[f32]) -> [f32; 2] {
+    let mut input = [random.between(0.0, 4.0), random.between(0.0, 2.0)];
+    if random.below(8) == 0 {
+        input[random.below(2) as usize] = random.pick(edges);
+    }
+    input
+}
+
 /// A state's block, the input's sum and the source's energy; high, band, low and what the mode selects, and the block after the sample. Samples
 /// that leave the finite domain are left out.
 fn filter_samples(filter: &mut Filter) -> Vec<[u32; 18]> {
@@ -1032,10 +1060,7 @@ fn filter_samples(filter: &mut Filter) -> Vec<[u32; 18]> {
     for number in 0..4096 {
         write_any(filter, &mut random);
         let state = state_floats(filter, &mut random, number);
-        let mut input = [random.between(0.0, 4.0), random.between(0.0, 2.0)];
-        if random.below(8) == 0 {
-            input[random.below(2) as usize] = random.pick(&edges);
-        }
+        let input = any_input(&mut random, &edges);
         let before = block_words(filter, state);
         let kept = filter.state();
         [kept.band_state, kept.low_state, kept.filter_source_energy] = state;
@@ -1044,6 +1069,84 @@ fn filter_samples(filter: &mut Filter) -> Vec<[u32; 18]> {
         let after = [kept.band_state, kept.low_state, kept.filter_source_energy];
         if state.iter().chain(&outputs).chain(&after).all(|x| x.is_finite()) {
             records.push(joined([&before, &input.map(word), &outputs.map(word), &block_words(filter, after)]));
+        }
+    }
+    records
+}
+
+/// A transfer, its two nibbles and its input; number, value, index and fraction. 0 is the summer, by the routing; 1 the mixer, by routing and
+/// mode; 2 the volume DAC, by the volume. A nibble that is not there is 0. Every nibble at the ends and at others, and one that is no nibble.
+fn transfers(filter: &mut Filter, ruled: &mut Ruled) -> Vec<[u32; 8]> {
+    let mut random = Random::of("transfers");
+    let mut cases: Vec<(u32, u8, u8, f32)> = vec![];
+    for nibble in 0..=16 {
+        for transfer in [0, 2] {
+            cases.extend(ENDS.map(|input| (transfer, nibble, 0, input)));
+            cases.extend((0..40).map(|_| (transfer, nibble, 0, random.between(-0.5, 4.5))));
+        }
+        for mode in 0..=16 {
+            cases.extend([random.pick(&ENDS), 0.0, -0.0, random.between(-0.5, 7.5)].map(|input| (1, nibble, mode, input)));
+        }
+    }
+    let mut at = |(transfer, first, second, input): (u32, u8, u8, f32)| {
+        let number = match transfer {
+            _ if first > 15 || second > 15 => 10,
+            _ if input.is_finite() => 0,
+            0 => 5,
+            _ => 10,
+        };
+        if number != 0 {
+            return point(number, 0.0, (0, 0.0));
+        }
+        let ask = |filter: &mut Filter| {
+            filter.write_signal_routing(first);
+            filter.write_mode_and_volume(if transfer == 2 { first } else { second << 4 });
+            match transfer {
+                0 => filter.summer(input),
+                1 => filter.mixer(input),
+                _ => filter.volume(input),
+            }
+        };
+        point(0, ask(filter), ruled.told(ask))
+    };
+    cases.into_iter().map(|case| joined([&[case.0, case.1.into(), case.2.into(), word(case.3)], &at(case)])).collect()
+}
+
+/// A state's block, the input's sum and the source's energy; number, value, index and fraction of the summer in that sample, zeros where it is
+/// idle. Samples that leave the finite domain are left out.
+fn sample_points(filter: &mut Filter, ruled: &mut Ruled) -> Vec<[u32; 12]> {
+    let mut random = Random::of("sample_point");
+    let edges = edges();
+    let mut records = vec![];
+    for number in 0..4096 {
+        write_any(filter, &mut random);
+        let state = state_floats(filter, &mut random, number);
+        let [sum, energy] = any_input(&mut random, &edges);
+        let before = block_words(filter, state);
+        let routing = filter.registers().resonance << 4 | filter.registers().routing;
+        let sampled = |filter: &mut Filter| {
+            filter.write_signal_routing(routing);
+            let kept = filter.state();
+            [kept.band_state, kept.low_state, kept.filter_source_energy] = state;
+            filter.sample(sum, energy)
+        };
+        let refused = if sum.is_finite() && energy.is_finite() { 0 } else { 5 };
+        let told = if refused != 0 {
+            point(refused, 0.0, (0, 0.0))
+        } else if ruled.reads(|blank| sampled(blank)[0]) {
+            let place = ruled.told(|filter| {
+                filter.write_signal_routing(routing);
+                filter.summer(sum)
+            });
+            point(0, filter.summer(sum), place)
+        } else {
+            point(0, 0.0, (0, 0.0))
+        };
+        let outputs = sampled(filter);
+        let kept = filter.state();
+        let after = [kept.band_state, kept.low_state, kept.filter_source_energy];
+        if state.iter().all(|x| x.is_finite()) && (refused != 0 || outputs.iter().chain(&after).all(|x| x.is_finite())) {
+            records.push(joined([&before, &[sum, energy].map(word), &told]));
         }
     }
     records

@@ -93,6 +93,17 @@ pub struct State {
     pub floats: [f32; 3],
 }
 
+pub fn topology_of(state: &State) -> MixingTopology {
+    let mut topology = MixingTopology::new();
+    topology.update(state.registers.routing, state.registers.mode);
+    topology
+}
+
+/// Nothing is routed, and the three numbers are zeros of either sign.
+fn is_idle(topology: &MixingTopology, state: &State) -> bool {
+    topology.filter_input_count == 0 && state.floats == [0.0; 3]
+}
+
 /// What is lent to be read, and every place that was, in order: buffer and byte.
 pub struct Machine<'a> {
     bundle: &'a [u8],
@@ -214,26 +225,29 @@ impl<'a> Machine<'a> {
         Ok(lower_value + (upper_value - lower_value) * load)
     }
 
+    /// `summer_transfer`.
+    fn summer(&mut self, topology: &MixingTopology, sum: f32) -> Result<f32, Refusal> {
+        let count = 2 + topology.filter_input_count;
+        let average = (sum + 2.0 * filter_mode_quiescent_level()) * topology.summer_input_reciprocal;
+        Ok(self.curve(count, average)? - self.resting(count)?)
+    }
+
     /// `advance_filter_core`, then `select_filter_output`: the four outputs and the floats after them.
     fn sample(&mut self, state: &State, sum: f32, energy: f32) -> Result<([f32; 4], [f32; 3]), Refusal> {
-        let registers = &state.registers;
-        let mut topology = MixingTopology::new();
-        topology.update(registers.routing, registers.mode);
+        let (registers, topology) = (&state.registers, topology_of(state));
         if !(sum.is_finite() && energy.is_finite()) {
             return Err(number(5));
         }
         let controls = self.controls(registers)?;
         let [band_state, low_state, tracked] = state.floats;
-        let count = topology.filter_input_count;
-        if count == 0 && tracked == 0.0 && band_state == 0.0 && low_state == 0.0 {
+        if is_idle(&topology, state) {
             let selected = select(&controls, &topology, registers.mode, [0.0; 3]);
             return if selected.is_finite() { Ok(([0.0, 0.0, 0.0, selected], state.floats)) } else { Err(number(6)) };
         }
-        let fed = if count > 0 { energy * topology.filter_input_reciprocal } else { energy };
+        let fed = if topology.filter_input_count > 0 { energy * topology.filter_input_reciprocal } else { energy };
         let tracked = tracked + FILTER_SOURCE_ENERGY_TRACKING * (fed - tracked);
 
-        let average = (sum + 2.0 * filter_mode_quiescent_level()) * topology.summer_input_reciprocal;
-        let input = (self.curve(2 + count, average)? - self.resting(2 + count)?) * FILTER_INPUT_GAIN;
+        let input = self.summer(&topology, sum)? * FILTER_INPUT_GAIN;
         let (lower, upper, fraction) = operating_position(input, band_state, low_state);
         let between = |at: &dyn Fn(usize) -> f32| at(lower) + (at(upper) - at(lower)) * fraction;
         let feedback_drive = between(&|bin| 0.48 + 1.62 * (bin as f32 / 15.0)) * controls.feedback_scale;
@@ -260,6 +274,21 @@ impl<'a> Machine<'a> {
         }
         let [high, band, low] = outputs;
         Ok(([high, band, low, selected], [integrator.band_state, integrator.low_state, tracked]))
+    }
+
+    /// What a sample of a block's state feeds the filter, and nothing where it is idle. The order is 1, 2, 4, 10, then as a sample.
+    pub fn fed(&mut self, bytes: &[u8], sum: f32, energy: f32) -> Result<Option<f32>, Refusal> {
+        check_bundle(self.bundle)?;
+        if self.curves.len() != CURVES_LENGTH {
+            return Err(number(4));
+        }
+        let state = decode(bytes)?;
+        self.sample(&state, sum, energy)?;
+        let topology = topology_of(&state);
+        match is_idle(&topology, &state) {
+            true => Ok(None),
+            false => self.summer(&topology, sum).map(Some),
+        }
     }
 
     /// One event, which alters the state or is refused: what it writes.

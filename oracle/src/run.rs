@@ -215,7 +215,7 @@ fn finite(random: &mut Random) -> f32 {
 }
 
 /// Any valid block; the floats of the filter's size, zeros of either sign, near the saturation's overflow, or any finite ones.
-fn any_block(random: &mut Random) -> [u8; 24] {
+pub fn any_block(random: &mut Random) -> [u8; 24] {
     let bits = random.bits();
     let mut bytes = [0; 24];
     let code = |bits: u64| [0, 2047, bits as u16 % 2048, bits as u16 % 2048][(bits >> 12) as usize % 4];

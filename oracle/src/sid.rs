@@ -79,6 +79,10 @@ mod filter {
             &self.curves
         }
 
+        pub(super) fn curves_mut(&mut self) -> &mut TransferCurves {
+            &mut self.curves
+        }
+
         pub(super) fn state(&mut self) -> &mut IntegratorState {
             &mut self.state
         }

@@ -56,9 +56,7 @@ pub mod proved {
     unsafe extern "C" {
         pub safe fn probe_load_position(conductance: f32) -> Load;
         fn probe_sample(bundle: *const u8, len: usize, conductance: f32, input: f32) -> Value;
-        fn probe_sample_curve(curves: *const u8, len: usize, curve: u8, input: f32) -> Value;
         fn probe_any_sample(bundle: *const u8, len: usize, conductance: f32, input: f32) -> f32;
-        fn probe_any_sample_curve(curves: *const u8, len: usize, curve: u8, input: f32) -> f32;
         fn probe_summer_resting_output(bundle: *const u8, len: usize, count: u8) -> f32;
     }
 
@@ -81,16 +79,8 @@ pub mod proved {
         unsafe { probe_sample(bundle.as_ptr(), bundle.len(), conductance, input) }
     }
 
-    pub fn sample_curve(curves: &[u8], curve: u8, input: f32) -> Value {
-        unsafe { probe_sample_curve(curves.as_ptr(), curves.len(), curve, input) }
-    }
-
     pub fn any_sample(bundle: &[u8], conductance: f32, input: f32) -> f32 {
         unsafe { probe_any_sample(bundle.as_ptr(), bundle.len(), conductance, input) }
-    }
-
-    pub fn any_sample_curve(curves: &[u8], curve: u8, input: f32) -> f32 {
-        unsafe { probe_any_sample_curve(curves.as_ptr(), curves.len(), curve, input) }
     }
 
     pub fn summer_resting_output(bundle: &[u8], count: u8) -> f32 {
@@ -110,11 +100,9 @@ pub fn compare() -> Vec<(&'static str, Tally)> {
         ("built curves of other surfaces", other_curves(&bundle)),
         ("load_position", load_position()),
         ("sample", sample(&bundle)),
-        ("sample_curve", sample_curve(&bundle, &filter)),
         ("summer_resting_output", resting_output(&bundle, &filter)),
         ("headers and lengths", headers(&bundle)),
         ("damaged bundles", damaged_bundles(bundle)),
-        ("damaged curves", damaged_curves(&filter)),
     ]
 }
 
@@ -241,25 +229,6 @@ fn sample(bundle: &[u8]) -> Tally {
     tally
 }
 
-fn sample_curve(bundle: &[u8], filter: &Filter) -> Tally {
-    let (mut tally, mut random) = (Tally::default(), Random(23));
-    let curves = built(bundle);
-    let theirs = filter.curves();
-    let theirs: Vec<&[f32; 2049]> = theirs.summer.iter().chain(&theirs.mixer).chain(&theirs.volume).map(Box::as_ref).collect();
-    for [curve, input, value] in records("sample_curve") {
-        tally.same(word(proved::any_sample_curve(&curves, curve as u8, f32::from_bits(input))), value);
-    }
-    for turn in 0..1_000_000 {
-        let (curve, input) = ((turn % 33) as u8, random.float());
-        let theirs = theirs.get(usize::from(curve)).map_or(0.0, |curve| AnalogueTransferSurface::sample_curve(curve, input));
-        if curve <= 30 {
-            tally.same_float(proved::any_sample_curve(&curves, curve, input), theirs);
-        }
-        same_value(&mut tally, proved::sample_curve(&curves, curve, input), curve <= 30 && input.is_finite(), theirs);
-    }
-    tally
-}
-
 fn resting_output(bundle: &[u8], filter: &Filter) -> Tally {
     let mut tally = Tally::default();
     for (count, &theirs) in filter.curves().summer_resting_output.iter().enumerate() {
@@ -374,34 +343,4 @@ fn damaged_sample(tally: &mut Tally, bundle: &[u8], conductance: f32, input: f32
         Some(place) => tally.same((ours.number, ours.buffer, ours.place, word(ours.value)), (3, 0, place as u32, 0)),
         None => tally.same((ours.number, ours.buffer, ours.place), (0, 0, 0)),
     }
-}
-
-/// Entries of a curve about an input, and buffers of other lengths.
-fn damaged_curves(filter: &Filter) -> Tally {
-    let (mut tally, mut random) = (Tally::default(), Random(25));
-    let mut curves = curves_of(filter);
-    for _ in 0..200_000 {
-        let (curve, index) = ((random.bits() % 31) as usize, (random.bits() % 2049) as usize);
-        let place = 4 * (2049 * curve + index);
-        let whole: [u8; 4] = curves[place..place + 4].try_into().unwrap();
-        curves[place..place + 4].copy_from_slice(&DAMAGES[(random.bits() % 12) as usize].to_le_bytes());
-        for shift in [-1.0, -0.5, 0.0, 0.5] {
-            let input = (index as f32 + shift) / 2047.0;
-            let lower = (input.clamp(0.0, 1.0) * 2047.0) as usize;
-            let read = [lower, lower + 1].map(|index| 4 * (2049 * curve + index));
-            let ours = proved::sample_curve(&curves, curve as u8, input);
-            match read.into_iter().find(|&place| !usable(&curves[place..place + 4])) {
-                Some(place) => tally.same((ours.number, ours.buffer, ours.place, word(ours.value)), (3, 1, place as u32, 0)),
-                None => tally.same((ours.number, ours.buffer, ours.place), (0, 0, 0)),
-            }
-        }
-        curves[place..place + 4].copy_from_slice(&whole);
-    }
-    for length in [0, 1, 254_072, 254_075] {
-        for (curve, input) in [(0, 0.5), (31, f32::NAN)] {
-            let ours = proved::sample_curve(&curves[..length], curve, input);
-            tally.same((ours.number, ours.buffer, ours.place, word(ours.value)), (4, 0, 0, 0));
-        }
-    }
-    tally
 }

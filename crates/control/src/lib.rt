@@ -262,7 +262,7 @@ impl State {
     }
 
     // The state that a block's fields stand for, valid or not.
-    fn fields(block: &[u8]) -> Self
+    pub fn fields(block: &[u8]) -> Self
         ensures { λ r. ⌜ r ≡ fieldsOf (now (block .entry)) ⌝ }
     {
         Self {

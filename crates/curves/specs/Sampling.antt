@@ -14,6 +14,7 @@ use Rattle.response.specs.Position.{tablePositionOf}
 use Rattle.bundle.specs.Layout.{analogueSurface, entryPlace}
 use Rattle.bundle.specs.Opening.{entryAt}
 use Rattle.curves.specs.declared.AnalogueLoadPosition.{AnalogueLoadPosition}
+use Rattle.curves.specs.declared.CurvePoint.{CurvePoint}
 
 -- ---- positions
 
@@ -88,6 +89,16 @@ unfoldable pub sampleCurvePlacesOf : ℕ → Float → List ℕ
 sampleCurvePlacesOf curve input =
     let at = inputPositionOf input in
     curvePlace curve (at .lower) ∷ curvePlace curve (at .lower + 1) ∷ []
+
+-- the same, with the lower index and the fraction that it used
+unfoldable pub curvePointOf : List ℕ → ℕ → Float → CurvePoint
+curvePointOf curves curve input =
+    let at = inputPositionOf input in
+    record { value = sampleCurveOf curves curve input; index = at .lower; fraction = at .fraction }
+
+-- Zeros, where no curve is read.
+abbrev pub noPoint : CurvePoint
+noPoint = record { value = f32 0; index = 0; fraction = f32 0 }
 
 -- ---- the summer at rest
 

@@ -11,7 +11,7 @@ ghost use Rattle.bundle.specs.Opening.{entryAt, judgePlacesOf};
 ghost use Rattle.bundle.specs.Reading.{readOf};
 ghost use Rattle.response.specs.Levels.{interpolateOf};
 ghost use Rattle.bundle.specs.Layout.{bundleLength};
-ghost use Rattle.curves.specs.Sampling.{lastInput, lastBase, loadPositionOf, inputPositionOf, tablePlace, samplePlacesOf, sampleOf, curvePlace, sampleCurvePlacesOf, sampleCurveOf};
+ghost use Rattle.curves.specs.Sampling.{lastInput, lastBase, loadPositionOf, inputPositionOf, tablePlace, samplePlacesOf, sampleOf, curvePlace, sampleCurvePlacesOf, sampleCurveOf, curvePointOf, noPoint};
 ghost use Rattle.curves.specs.Sampling.{summerRestingPlacesOf, summerRestingOutputOf};
 ghost use Rattle.curves.specs.Building.{curveLoadOf, volumeEntryOf, finishedOf, curveLength, curvesLength, buildCurveOf, buildCurvesOf, judgeLengthOf, judgeBuildOf, buildOf};
 ghost use Rattle.curves.specs.Inner.{readRowOf, tableRowOf, UsableRow, blendOf, blendRowsOf, Buildable};
@@ -40,6 +40,14 @@ const ROW_BYTES: usize = 8_192;
 pub struct AnalogueLoadPosition {
     pub lower_base: usize,
     pub upper_base: usize,
+    pub fraction: f32,
+}
+
+// Where on a curve an input stands, and the value there: it lies between the entry of the index and the next one, the fraction of the way up.
+#[repr(C)]
+pub struct CurvePoint {
+    pub value: f32,
+    pub index: u32,
     pub fraction: f32,
 }
 
@@ -189,17 +197,39 @@ pub fn judge_sample_curve(curves: &[u8], curve: u8, input: f32) -> Answer
     bundle::judge_places(Buffer::Curves, curves, &places)
 }
 
+// A curve at an input, with the place at which it was read.
+pub fn curve_point(curves: &[u8], curve: u8, input: f32) -> CurvePoint
+    ensures { λ r. ⌜ r ≡ curvePointOf (now (curves .entry)) curve input ⌝ }
+{
+    let at = input_position(input);
+    let places = sample_curve_places(curve, input);
+    let left = bundle::entry_at(curves, places[0]);
+    let right = bundle::entry_at(curves, places[1]);
+    let index = at.lower as u32;
+    let fraction = at.fraction;
+    CurvePoint {
+        value: response::interpolate(left, right, fraction),
+        index,
+        fraction,
+    }
+}
+
+// Zeros, where no curve is read.
+pub fn no_point() -> CurvePoint
+    ensures { λ r. ⌜ r ≡ noPoint ⌝ }
+{
+    CurvePoint {
+        value: 0.0,
+        index: 0,
+        fraction: 0.0,
+    }
+}
+
 // A curve at an input.
 pub fn sample_curve(curves: &[u8], curve: u8, input: f32) -> f32
     ensures { λ r. ⌜ r ≡ sampleCurveOf (now (curves .entry)) curve input ⌝ }
 {
-    let at = input_position(input);
-    let places = sample_curve_places(curve, input);
-    response::interpolate(
-        bundle::entry_at(curves, places[0]),
-        bundle::entry_at(curves, places[1]),
-        at.fraction,
-    )
+    curve_point(curves, curve, input).value
 }
 
 // `sample_curve`, each entry judged as it is read.

@@ -1,1 +1,3 @@
 pub mod MixerInputs
+pub mod CurveNumber
+pub mod Placed

@@ -1,4 +1,4 @@
--- More than seven mixer inputs are a 10 of the direct call, which then hands out 0. Assumes nothing.
+-- More than seven mixer inputs are a 10 of the direct call, which then hands out zeros. Assumes nothing.
 use Prim.Native.Nat.{ℕ, _<_}
 use mathlib.Core.Path.{_≡_, refl}
 use mathlib.Core.Bool.{Bool, true, false, _&&_}
@@ -8,11 +8,11 @@ use lib.Ieee.Scale.{finite}
 use borrow.Author.Tests.{lt-leb}
 use Rattle.answers.specs.declared.Answer.the-variants.{Done, Argument}
 use Rattle.answers.specs.Answers.{firstOf, unlessOf}
-use Rattle.floats.specs.Arithmetic.{f32}
 use Rattle.mixing.specs.declared.MixingTopology.{MixingTopology}
+use Rattle.curves.specs.Sampling.{noPoint}
 use Rattle.curves.specs.Building.{judgeLengthOf}
 use Rattle.transfers.specs.Transfers.{judgeMixerOf}
-use Rattle.direct.specs.declared.Valued.{Valued}
+use Rattle.direct.specs.declared.Pointed.{Pointed}
 use Rattle.direct.specs.Calls.{mixerAnswerOf, mixerTransferCallOf}
 
 module _ (curves : List ℕ) (t : MixingTopology) (sum : Float) (long : judgeLengthOf curves ≡ Done) (above : 7 < t .«mixer_input_count») where
@@ -24,6 +24,6 @@ module _ (curves : List ℕ) (t : MixingTopology) (sum : Float) (long : judgeLen
       go true = refl
       go false = refl
 
-  pub mixer-above : _≡_ {A = Valued} (mixerTransferCallOf curves t sum) (record { answer = Argument; value = f32 0 })
+  pub mixer-above : _≡_ {A = Pointed} (mixerTransferCallOf curves t sum) (record { answer = Argument; point = noPoint })
   unfolding mixerTransferCallOf
   mixer-above = rw answered refl

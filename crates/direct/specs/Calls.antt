@@ -24,11 +24,13 @@ use Rattle.mixing.specs.Topology.{topologyOf}
 use Rattle.bundle.specs.Layout.{highpassLoadingPlace}
 use Rattle.bundle.specs.Opening.{checkOf, entryAt, judgePlacesOf}
 use Rattle.curves.specs.declared.AnalogueLoadPosition.{AnalogueLoadPosition}
-use Rattle.curves.specs.Sampling.{loadPositionOf, samplePlacesOf, sampleOf, sampleCurvePlacesOf, sampleCurveOf}
+use Rattle.curves.specs.declared.CurvePoint.{CurvePoint}
+use Rattle.curves.specs.Sampling.{loadPositionOf, samplePlacesOf, sampleOf, sampleCurvePlacesOf, curvePointOf, noPoint}
 use Rattle.curves.specs.Building.{judgeLengthOf}
-use Rattle.transfers.specs.Transfers.{mixerSlotOf, mixerTransferOf, judgeMixerOf, volumeSlotOf, volumeTransferOf, judgeVolumeOf}
-use Rattle.sample.specs.Sample.{summerSlotOf, summerTransferOf, judgeSummerOf}
+use Rattle.transfers.specs.Transfers.{mixerSlotOf, mixerPointOf, judgeMixerOf, volumeSlotOf, volumePointOf, judgeVolumeOf}
+use Rattle.sample.specs.Sample.{summerSlotOf, summerPointOf, judgeSummerOf}
 use Rattle.direct.specs.declared.Valued.{Valued}
+use Rattle.direct.specs.declared.Pointed.{Pointed}
 use Rattle.direct.specs.declared.Substepped.{Substepped}
 use Rattle.direct.specs.declared.Routed.{Routed}
 use Rattle.direct.specs.declared.Positioned.{Positioned}
@@ -41,6 +43,12 @@ abbrev pub judgedValueOf : Answer → Float → Valued
 judgedValueOf judged value =
     let answer = firstOf judged (unlessOf (finite value) Domain) in
     record { answer = answer; value = cond (isDoneOf answer) value (f32 0) }
+
+-- The same for a point, by its value. A refused call stands on no curve.
+abbrev pub judgedPointOf : Answer → CurvePoint → Pointed
+judgedPointOf judged point =
+    let answer = firstOf judged (unlessOf (finite (point .value)) Domain) in
+    record { answer = answer; point = cond (isDoneOf answer) point noPoint }
 
 -- ---- the analogue surface and its curves
 
@@ -63,13 +71,14 @@ sampleCallOf bundle conductance input =
     (sampleOf bundle conductance input)
 
 -- `sample_curve`: 4, 10, 3, 6. A curve is a number of 0 to 30.
-unfoldable pub sampleCurveCallOf : List ℕ → ℕ → Float → Valued
-sampleCurveCallOf curves curve input =
-    judgedValueOf
-    (firstOf (judgeLengthOf curves)
+unfoldable pub sampleCurveAnswerOf : List ℕ → ℕ → Float → Answer
+sampleCurveAnswerOf curves curve input =
+    firstOf (judgeLengthOf curves)
     (firstOf (unlessOf (leb curve 30 && finite input) Argument)
-    (judgePlacesOf Curves curves (sampleCurvePlacesOf curve input))))
-    (sampleCurveOf curves curve input)
+    (judgePlacesOf Curves curves (sampleCurvePlacesOf curve input)))
+
+unfoldable pub sampleCurveCallOf : List ℕ → ℕ → Float → Pointed
+sampleCurveCallOf curves curve input = judgedPointOf (sampleCurveAnswerOf curves curve input) (curvePointOf curves curve input)
 
 -- ---- the transfers
 
@@ -82,8 +91,8 @@ summerAnswerOf bundle curves t sum =
     (firstOf (unlessOf (finite sum) InputNotFinite)
     (judgeSummerOf bundle curves (summerSlotOf t) t sum))))
 
-unfoldable pub summerTransferCallOf : List ℕ → List ℕ → MixingTopology → Float → Valued
-summerTransferCallOf bundle curves t sum = judgedValueOf (summerAnswerOf bundle curves t sum) (summerTransferOf bundle curves (summerSlotOf t) t sum)
+unfoldable pub summerTransferCallOf : List ℕ → List ℕ → MixingTopology → Float → Pointed
+summerTransferCallOf bundle curves t sum = judgedPointOf (summerAnswerOf bundle curves t sum) (summerPointOf bundle curves (summerSlotOf t) t sum)
 
 -- `mixer_transfer`: 4, 10, 3, 6. A count above 7 is a 10 of `judgeMixerOf`.
 unfoldable pub mixerAnswerOf : List ℕ → MixingTopology → Float → Answer
@@ -92,8 +101,8 @@ mixerAnswerOf curves t sum =
     (firstOf (unlessOf (finite (t .«mixer_input_reciprocal») && finite sum) Argument)
     (judgeMixerOf curves (mixerSlotOf (t .«mixer_input_count»)) t sum))
 
-unfoldable pub mixerTransferCallOf : List ℕ → MixingTopology → Float → Valued
-mixerTransferCallOf curves t sum = judgedValueOf (mixerAnswerOf curves t sum) (mixerTransferOf curves (mixerSlotOf (t .«mixer_input_count»)) t sum)
+unfoldable pub mixerTransferCallOf : List ℕ → MixingTopology → Float → Pointed
+mixerTransferCallOf curves t sum = judgedPointOf (mixerAnswerOf curves t sum) (mixerPointOf curves (mixerSlotOf (t .«mixer_input_count»)) t sum)
 
 -- `volume_transfer`: 4, 10, 3, 6
 unfoldable pub volumeAnswerOf : List ℕ → ℕ → Float → Answer
@@ -102,8 +111,8 @@ volumeAnswerOf curves volume value =
     (firstOf (unlessOf (leb volume 15 && finite value) Argument)
     (judgeVolumeOf curves (volumeSlotOf volume) value))
 
-unfoldable pub volumeTransferCallOf : List ℕ → ℕ → Float → Valued
-volumeTransferCallOf curves volume value = judgedValueOf (volumeAnswerOf curves volume value) (volumeTransferOf curves (volumeSlotOf volume) value)
+unfoldable pub volumeTransferCallOf : List ℕ → ℕ → Float → Pointed
+volumeTransferCallOf curves volume value = judgedPointOf (volumeAnswerOf curves volume value) (volumePointOf curves (volumeSlotOf volume) value)
 
 -- ---- the integrator
 

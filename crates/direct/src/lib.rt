@@ -5,6 +5,7 @@ ghost use Rattle.direct.specs.Calls as C;
 use answers::Answer;
 use answers::Buffer;
 use curves::AnalogueLoadPosition;
+use curves::CurvePoint;
 use integrator::Advanced;
 use integrator::Coefficients;
 use integrator::FilterOutputs;
@@ -16,6 +17,12 @@ use response::TablePosition;
 pub struct Valued {
     pub answer: Answer,
     pub value: f32,
+}
+
+// A point of a curve.
+pub struct Pointed {
+    pub answer: Answer,
+    pub point: CurvePoint,
 }
 
 // A substep's outputs and the state after it.
@@ -54,6 +61,21 @@ fn judged_value(judged: Answer, value: f32) -> Valued
         return Valued { answer, value };
     }
     Valued { answer, value: 0.0 }
+}
+
+// The same for a point, by its value.
+fn judged_point(judged: Answer, point: CurvePoint) -> Pointed
+    ensures { λ r. ⌜ r ≡ C.judgedPointOf judged point ⌝ }
+{
+    let valued = judged_value(judged, point.value);
+    let answer = valued.answer;
+    if answers::is_done(answer) {
+        return Pointed { answer, point };
+    }
+    Pointed {
+        answer,
+        point: curves::no_point(),
+    }
 }
 
 // ---- the analogue surface and its curves
@@ -95,14 +117,19 @@ pub fn sample(bundle: &[u8], conductance: f32, input: f32) -> Valued
 }
 
 // A curve, 0 to 30, at an input. Refuses 4, 10, 3, 6.
-pub fn sample_curve(curves: &[u8], curve: u8, input: f32) -> Valued
+pub fn sample_curve(curves: &[u8], curve: u32, input: f32) -> Pointed
     ensures { λ r. ⌜ r ≡ C.sampleCurveCallOf (now (curves .entry)) curve input ⌝ }
 {
-    let value = curves::sample_curve(curves, curve, input);
-    let argument = answers::unless((curve <= 30) & floats::is_finite(input), Answer::Argument);
-    let entries = curves::judge_sample_curve(curves, curve, input);
-    let judged = answers::first(argument, entries);
-    judged_value(answers::first(curves::judge_length(curves), judged), value)
+    let long = curves::judge_length(curves);
+    if curve <= 30 {
+        let slot = curve as u8;
+        let point = curves::curve_point(curves, slot, input);
+        let argument = answers::unless(floats::is_finite(input), Answer::Argument);
+        let entries = curves::judge_sample_curve(curves, slot, input);
+        let judged = answers::first(long, answers::first(argument, entries));
+        return judged_point(judged, point);
+    }
+    judged_point(answers::first(long, Answer::Argument), curves::no_point())
 }
 
 // ---- summer, mixer and volume
@@ -113,11 +140,11 @@ pub fn summer_transfer(
     curves: &[u8],
     topology: MixingTopology,
     input_sum: f32,
-) -> Valued
+) -> Pointed
     ensures { λ r. ⌜ r ≡ C.summerTransferCallOf (now (bundle .entry)) (now (curves .entry)) topology «input_sum» ⌝ }
 {
     let slot = sample::summer_slot(topology);
-    let value = sample::summer_transfer(bundle, curves, slot, topology, input_sum);
+    let point = sample::summer_point(bundle, curves, slot, topology, input_sum);
     let known = (topology.filter_input_count <= 4)
         & floats::is_finite(topology.summer_input_reciprocal);
     let argument = answers::unless(known, Answer::Argument);
@@ -125,32 +152,32 @@ pub fn summer_transfer(
     let entries = sample::judge_summer(bundle, curves, slot, topology, input_sum);
     let judged = answers::first(argument, answers::first(sum, entries));
     let long = answers::first(curves::judge_length(curves), judged);
-    judged_value(answers::first(bundle::check(bundle), long), value)
+    judged_point(answers::first(bundle::check(bundle), long), point)
 }
 
 // The mixer's output for the sum of its inputs. Refuses 4, 10, 3, 6.
-pub fn mixer_transfer(curves: &[u8], topology: MixingTopology, input_sum: f32) -> Valued
+pub fn mixer_transfer(curves: &[u8], topology: MixingTopology, input_sum: f32) -> Pointed
     ensures { λ r. ⌜ r ≡ C.mixerTransferCallOf (now (curves .entry)) topology «input_sum» ⌝ }
 {
     let slot = transfers::mixer_slot(topology.mixer_input_count);
-    let value = transfers::mixer_transfer(curves, slot, topology, input_sum);
+    let point = transfers::mixer_point(curves, slot, topology, input_sum);
     let finite = floats::is_finite(topology.mixer_input_reciprocal) & floats::is_finite(input_sum);
     let argument = answers::unless(finite, Answer::Argument);
     let entries = transfers::judge_mixer(curves, slot, topology, input_sum);
     let judged = answers::first(argument, entries);
-    judged_value(answers::first(curves::judge_length(curves), judged), value)
+    judged_point(answers::first(curves::judge_length(curves), judged), point)
 }
 
 // The volume DAC's output for the mixer's. Refuses 4, 10, 3, 6.
-pub fn volume_transfer(curves: &[u8], volume: u8, value: f32) -> Valued
+pub fn volume_transfer(curves: &[u8], volume: u8, value: f32) -> Pointed
     ensures { λ r. ⌜ r ≡ C.volumeTransferCallOf (now (curves .entry)) volume value ⌝ }
 {
     let slot = transfers::volume_slot(volume);
-    let output = transfers::volume_transfer(curves, slot, value);
+    let point = transfers::volume_point(curves, slot, value);
     let argument = answers::unless((volume <= 15) & floats::is_finite(value), Answer::Argument);
     let entries = transfers::judge_volume(curves, slot, value);
     let judged = answers::first(argument, entries);
-    judged_value(answers::first(curves::judge_length(curves), judged), output)
+    judged_point(answers::first(curves::judge_length(curves), judged), point)
 }
 
 // ---- the integrator

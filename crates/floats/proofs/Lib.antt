@@ -4,3 +4,4 @@ pub mod Narrowing
 pub mod Range
 pub mod Rounding
 pub mod Sized
+pub mod Numbers

@@ -454,6 +454,11 @@ pub curve-index : (x : Float) → toUnsigned 64 (mul binary32 (clampOf x (ofBits
 unfolding ofBits
 curve-index = index-law binary32 (lit≤ tt) zero32 one32 (literal (ofBits binary32 0x44ff_e000) 2047 (refl, refl))
 
+pub curve-fraction : (x : Float) → T (not (isNan x)) → let p = mul binary32 (clampOf x (ofBits binary32 0) (ofBits binary32 0x3f80_0000)) (ofBits binary32 0x44ff_e000) in
+    Fraction (sub binary32 p (ofInt binary32 (pos (toUnsigned 64 p))))
+unfolding ofBits
+curve-fraction = fraction-law binary32 (lit≤ tt) zero32 one32 (literal (ofBits binary32 0x44ff_e000) 2047 (refl, refl))
+
 pub load-index : (x : Float)
     → toUnsigned 64 (div binary32 (mul binary32 (clampOf x (ofBits binary32 0) (ofBits binary32 0x4110_0000)) (ofBits binary32 0x4310_0000)) (ofBits binary32 0x4110_0000)) ≤ 144
 unfolding ofBits

@@ -1,10 +1,11 @@
-// The direct calls of the filter's parts, and the total transfers behind the first three.
+// The direct calls of the filter's parts that C has no call for, and the total transfers. A topology need not be one that nibbles give.
 ghost use mathlib.Core.Path.{_≡_};
 ghost use Rattle.response.specs.Levels.{filterModeQuiescentLevelOf};
 ghost use Rattle.sample.specs.Sample.{summerSlotOf, summerTransferOf};
 ghost use Rattle.transfers.specs.Transfers.{mixerSlotOf, mixerTransferOf, volumeSlotOf, volumeTransferOf};
 ghost use Rattle.direct.specs.Calls as C;
-ghost use Rattle.probe.specs.Calls.{replyOf, stepReplyOf, routeReplyOf, binReplyOf};
+ghost use Rattle.probe.specs.Calls.{replyOf, pointReplyOf, stepReplyOf, routeReplyOf, binReplyOf};
+use direct::Pointed;
 use direct::Valued;
 use integrator::Advanced;
 use integrator::Coefficients;
@@ -19,6 +20,13 @@ pub struct Reply {
     pub buffer: u32,
     pub place: u32,
     pub value: f32,
+}
+
+#[repr(C)]
+pub struct PointReply {
+    pub reply: Reply,
+    pub index: u32,
+    pub fraction: f32,
 }
 
 // The other three refuse with a number alone.
@@ -53,6 +61,19 @@ fn numbers(r: Valued) -> Reply
     }
 }
 
+fn point_numbers(r: Pointed) -> PointReply
+    ensures { λ v. ⌜ v ≡ pointReplyOf r ⌝ }
+{
+    let answer = r.answer;
+    let point = r.point;
+    let value = point.value;
+    PointReply {
+        reply: numbers(Valued { answer, value }),
+        index: point.index,
+        fraction: point.fraction,
+    }
+}
+
 // ---- summer, mixer and volume
 
 #[no_mangle]
@@ -61,24 +82,21 @@ pub extern "C" fn probe_direct_summer(
     curves: &[u8],
     topology: MixingTopology,
     sum: f32,
-) -> Reply
-    ensures { λ r. ⌜ r ≡ replyOf (C.summerTransferCallOf (now (bundle .entry)) (now (curves .entry)) topology sum) ⌝ }
+) -> PointReply
+    ensures { λ r. ⌜ r ≡ pointReplyOf (C.summerTransferCallOf (now (bundle .entry)) (now (curves .entry)) topology sum) ⌝ }
 {
-    numbers(direct::summer_transfer(bundle, curves, topology, sum))
+    point_numbers(direct::summer_transfer(bundle, curves, topology, sum))
 }
 
 #[no_mangle]
-pub extern "C" fn probe_direct_mixer(curves: &[u8], topology: MixingTopology, sum: f32) -> Reply
-    ensures { λ r. ⌜ r ≡ replyOf (C.mixerTransferCallOf (now (curves .entry)) topology sum) ⌝ }
+pub extern "C" fn probe_direct_mixer(
+    curves: &[u8],
+    topology: MixingTopology,
+    sum: f32,
+) -> PointReply
+    ensures { λ r. ⌜ r ≡ pointReplyOf (C.mixerTransferCallOf (now (curves .entry)) topology sum) ⌝ }
 {
-    numbers(direct::mixer_transfer(curves, topology, sum))
-}
-
-#[no_mangle]
-pub extern "C" fn probe_direct_volume(curves: &[u8], volume: u8, value: f32) -> Reply
-    ensures { λ r. ⌜ r ≡ replyOf (C.volumeTransferCallOf (now (curves .entry)) volume value) ⌝ }
-{
-    numbers(direct::volume_transfer(curves, volume, value))
+    point_numbers(direct::mixer_transfer(curves, topology, sum))
 }
 
 // The same for any float, and with no look at the buffers.

@@ -1,7 +1,7 @@
-// The surface and a curve: the refusing calls, and the total functions behind them.
+// The surface: the refusing calls, and the total functions behind them.
 ghost use mathlib.Core.Path.{_≡_};
-ghost use Rattle.curves.specs.Sampling.{sampleOf, sampleCurveOf, summerRestingOutputOf};
-ghost use Rattle.direct.specs.Calls.{loadPositionCallOf, sampleCallOf, sampleCurveCallOf};
+ghost use Rattle.curves.specs.Sampling.{sampleOf, summerRestingOutputOf};
+ghost use Rattle.direct.specs.Calls.{loadPositionCallOf, sampleCallOf};
 ghost use Rattle.probe.specs.Surface.{surfaceReplyOf, loadOf};
 use direct::Valued;
 
@@ -57,26 +57,12 @@ pub extern "C" fn probe_sample(bundle: &[u8], conductance: f32, input: f32) -> V
     numbers(direct::sample(bundle, conductance, input))
 }
 
-#[no_mangle]
-pub extern "C" fn probe_sample_curve(curves: &[u8], curve: u8, input: f32) -> Value
-    ensures { λ r. ⌜ r ≡ surfaceReplyOf (sampleCurveCallOf (now (curves .entry)) curve input) ⌝ }
-{
-    numbers(direct::sample_curve(curves, curve, input))
-}
-
 // The same for any float, and with no look at the bundle.
 #[no_mangle]
 pub extern "C" fn probe_any_sample(bundle: &[u8], conductance: f32, input: f32) -> f32
     ensures { λ r. ⌜ r ≡ sampleOf (now (bundle .entry)) conductance input ⌝ }
 {
     curves::sample(bundle, conductance, input)
-}
-
-#[no_mangle]
-pub extern "C" fn probe_any_sample_curve(curves: &[u8], curve: u8, input: f32) -> f32
-    ensures { λ r. ⌜ r ≡ sampleCurveOf (now (curves .entry)) curve input ⌝ }
-{
-    curves::sample_curve(curves, curve, input)
 }
 
 #[no_mangle]

@@ -25,7 +25,8 @@ use Rattle.response.specs.Levels.{interpolateOf, filterModeQuiescentLevelOf}
 use Rattle.response.specs.Position.{operatingPositionOf}
 use Rattle.mixing.specs.declared.MixingTopology.{MixingTopology}
 use Rattle.bundle.specs.Opening.{judgePlacesOf}
-use Rattle.curves.specs.Sampling.{sampleCurveOf, sampleCurvePlacesOf, summerRestingOutputOf, summerRestingPlacesOf}
+use Rattle.curves.specs.declared.CurvePoint.{CurvePoint}
+use Rattle.curves.specs.Sampling.{sampleCurveOf, sampleCurvePlacesOf, curvePointOf, summerRestingOutputOf, summerRestingPlacesOf}
 use Rattle.controls.specs.declared.FilterControls.{FilterControls}
 use Rattle.controls.specs.declared.ControlCache.{ControlCache}
 use Rattle.sample.specs.declared.Outputs.{Outputs}
@@ -53,6 +54,12 @@ unfoldable pub summerTransferOf : List ℕ → List ℕ → ℕ → MixingTopolo
 summerTransferOf bundle curves slot t sum =
     let inputs = summerInputsOf (t .«filter_input_count») in
     sampleCurveOf curves slot (averageOf t sum) ⊖ summerRestingOutputOf bundle inputs
+
+-- the same, with the place of the average on the curve
+unfoldable pub summerPointOf : List ℕ → List ℕ → ℕ → MixingTopology → Float → CurvePoint
+summerPointOf bundle curves slot t sum =
+    let at = curvePointOf curves slot (averageOf t sum) in
+    record { value = summerTransferOf bundle curves slot t sum; index = at .index; fraction = at .fraction }
 
 -- what it reads: two entries of the curve, then four of the surface for the resting output
 unfoldable pub judgeSummerOf : List ℕ → List ℕ → ℕ → MixingTopology → Float → Answer

@@ -8,6 +8,7 @@ ghost use Rattle.sample.specs.Parts as P;
 use answers::Answer;
 use bundle::Read;
 use controls::ControlCache;
+use curves::CurvePoint;
 use integrator::Coefficients;
 use integrator::FilterOutputs;
 use integrator::IntegratorState;
@@ -59,7 +60,26 @@ pub fn summer_slot(topology: MixingTopology) -> u8
     summer_inputs(topology.filter_input_count)
 }
 
-// The summer's output above its output at rest.
+// The summer's output above its output at rest, and where on its curve the output stands.
+pub fn summer_point(
+    bundle: &[u8],
+    curves: &[u8],
+    slot: u8,
+    topology: MixingTopology,
+    input_sum: f32,
+) -> CurvePoint
+    ensures { λ r. ⌜ r ≡ S.summerPointOf (now (bundle .entry)) (now (curves .entry)) slot topology «input_sum» ⌝ }
+{
+    let inputs = summer_inputs(topology.filter_input_count);
+    let at = curves::curve_point(curves, slot, average(topology, input_sum));
+    CurvePoint {
+        value: at.value - curves::summer_resting_output(bundle, inputs),
+        index: at.index,
+        fraction: at.fraction,
+    }
+}
+
+// The output alone.
 pub fn summer_transfer(
     bundle: &[u8],
     curves: &[u8],
@@ -69,9 +89,7 @@ pub fn summer_transfer(
 ) -> f32
     ensures { λ r. ⌜ r ≡ S.summerTransferOf (now (bundle .entry)) (now (curves .entry)) slot topology «input_sum» ⌝ }
 {
-    let inputs = summer_inputs(topology.filter_input_count);
-    let average = average(topology, input_sum);
-    curves::sample_curve(curves, slot, average) - curves::summer_resting_output(bundle, inputs)
+    summer_point(bundle, curves, slot, topology, input_sum).value
 }
 
 // The entries that it reads, in its order.
@@ -126,7 +144,8 @@ fn summed(
 
 // ---- advance_filter_core
 
-fn is_idle(count: usize, s: IntegratorState) -> bool
+// Whether a sample leaves the core as it is and reads nothing.
+pub fn is_idle(count: usize, s: IntegratorState) -> bool
     ensures { λ r. ⌜ r ≡ S.isIdleOf count s ⌝ }
 {
     (count == 0) & (s.filter_source_energy == 0.0) & (s.band_state == 0.0) & (s.low_state == 0.0)

@@ -12,7 +12,8 @@ use Rattle.floats.specs.Arithmetic.{_⊗_, f32}
 use Rattle.response.specs.Levels.{filterModeQuiescentLevelOf}
 use Rattle.mixing.specs.declared.MixingTopology.{MixingTopology}
 use Rattle.bundle.specs.Opening.{judgePlacesOf}
-use Rattle.curves.specs.Sampling.{sampleCurveOf, sampleCurvePlacesOf}
+use Rattle.curves.specs.declared.CurvePoint.{CurvePoint}
+use Rattle.curves.specs.Sampling.{sampleCurveOf, sampleCurvePlacesOf, curvePointOf, noPoint}
 
 -- ---- `mixer_transfer`
 
@@ -28,6 +29,10 @@ mixerAverageOf t sum = cond (eqb (t .«mixer_input_count») 0) filterModeQuiesce
 unfoldable pub mixerTransferOf : List ℕ → ℕ → MixingTopology → Float → Float
 mixerTransferOf curves slot t sum = cond (leb (t .«mixer_input_count») 7) (sampleCurveOf curves slot (mixerAverageOf t sum)) (f32 0)
 
+-- it stands on no curve,
+unfoldable pub mixerPointOf : List ℕ → ℕ → MixingTopology → Float → CurvePoint
+mixerPointOf curves slot t sum = cond (leb (t .«mixer_input_count») 7) (curvePointOf curves slot (mixerAverageOf t sum)) noPoint
+
 -- and it is a 10.
 unfoldable pub judgeMixerOf : List ℕ → ℕ → MixingTopology → Float → Answer
 judgeMixerOf curves slot t sum = cond (leb (t .«mixer_input_count») 7) (judgePlacesOf Curves curves (sampleCurvePlacesOf slot (mixerAverageOf t sum))) Argument
@@ -40,6 +45,9 @@ volumeSlotOf volume = 15 + min volume 15
 
 unfoldable pub volumeTransferOf : List ℕ → ℕ → Float → Float
 volumeTransferOf curves slot value = sampleCurveOf curves slot value
+
+unfoldable pub volumePointOf : List ℕ → ℕ → Float → CurvePoint
+volumePointOf curves slot value = curvePointOf curves slot value
 
 unfoldable pub judgeVolumeOf : List ℕ → ℕ → Float → Answer
 judgeVolumeOf curves slot value = judgePlacesOf Curves curves (sampleCurvePlacesOf slot value)

@@ -3,6 +3,7 @@
 ghost use mathlib.Core.Path.{_≡_};
 ghost use Rattle.transfers.specs.Transfers as T;
 use answers::Answer;
+use curves::CurvePoint;
 use mixing::MixingTopology;
 
 // ---- mixer_transfer
@@ -24,14 +25,21 @@ fn mixer_average(topology: MixingTopology, sum: f32) -> f32
     sum * topology.mixer_input_reciprocal
 }
 
-// The mixer's output for the sum of its inputs; 0, and no curve is read, for more than seven.
+// The mixer's output for the sum of its inputs, and where on its curve that stands; zeros, and no curve is read, for more than seven inputs.
+pub fn mixer_point(curves: &[u8], slot: u8, topology: MixingTopology, input_sum: f32) -> CurvePoint
+    ensures { λ r. ⌜ r ≡ T.mixerPointOf (now (curves .entry)) slot topology «input_sum» ⌝ }
+{
+    if topology.mixer_input_count <= 7 {
+        return curves::curve_point(curves, slot, mixer_average(topology, input_sum));
+    }
+    curves::no_point()
+}
+
+// The output alone.
 pub fn mixer_transfer(curves: &[u8], slot: u8, topology: MixingTopology, input_sum: f32) -> f32
     ensures { λ r. ⌜ r ≡ T.mixerTransferOf (now (curves .entry)) slot topology «input_sum» ⌝ }
 {
-    if topology.mixer_input_count <= 7 {
-        return curves::sample_curve(curves, slot, mixer_average(topology, input_sum));
-    }
-    0.0
+    mixer_point(curves, slot, topology, input_sum).value
 }
 
 // Its count, and the entries that it reads. Refuses 10, 3.
@@ -53,11 +61,18 @@ pub fn volume_slot(volume: u8) -> u8
     if volume < 15 { 15 + volume } else { 30 }
 }
 
-// The volume DAC's output for the mixer's.
+// The volume DAC's output for the mixer's, and where on its curve that stands.
+pub fn volume_point(curves: &[u8], slot: u8, value: f32) -> CurvePoint
+    ensures { λ r. ⌜ r ≡ T.volumePointOf (now (curves .entry)) slot value ⌝ }
+{
+    curves::curve_point(curves, slot, value)
+}
+
+// The output alone.
 pub fn volume_transfer(curves: &[u8], slot: u8, value: f32) -> f32
     ensures { λ r. ⌜ r ≡ T.volumeTransferOf (now (curves .entry)) slot value ⌝ }
 {
-    curves::sample_curve(curves, slot, value)
+    volume_point(curves, slot, value).value
 }
 
 // The entries that it reads.

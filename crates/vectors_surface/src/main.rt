@@ -1,6 +1,7 @@
 // Replays the oracle's answers (oracle/README.md) for the bundle, the curves built from it and the filter's core on both, and prints a
 // line for each file: its name, how many of its records agree, and how many it has.
 mod core;
+mod curve_points;
 mod song;
 mod surface;
 
@@ -9,10 +10,12 @@ enum Kind {
     Words,
     AnalogueLoadPosition,
     Sample,
-    SampleCurve,
     Curves,
     Controls,
     FilterSample,
+    SampleCurve,
+    Transfers,
+    SamplePoint,
 }
 
 fn agrees(kind: Kind, r: &[u8], bundle: &[u8], curves: &[u8]) -> bool {
@@ -20,10 +23,12 @@ fn agrees(kind: Kind, r: &[u8], bundle: &[u8], curves: &[u8]) -> bool {
         Kind::Words => surface::word(r, bundle),
         Kind::AnalogueLoadPosition => surface::load_position(r),
         Kind::Sample => surface::sample(r, bundle),
-        Kind::SampleCurve => surface::sample_curve(r, curves),
         Kind::Curves => surface::curve_entry(r, curves),
         Kind::Controls => core::controls(r, bundle),
         Kind::FilterSample => core::sample(r, bundle, curves),
+        Kind::SampleCurve => curve_points::sample_curve(r, curves),
+        Kind::Transfers => curve_points::transfer(r, bundle, curves),
+        Kind::SamplePoint => curve_points::sample_point(r, bundle, curves),
     }
 }
 
@@ -59,10 +64,12 @@ fn replay_files(bundle: &[u8], curves: &[u8]) {
         curves,
     );
     replay_file(Kind::Sample, b"sample.bin", 3, bundle, curves);
-    replay_file(Kind::SampleCurve, b"sample_curve.bin", 3, bundle, curves);
     replay_file(Kind::Curves, b"curves.bin", 2, bundle, curves);
     replay_file(Kind::Controls, b"controls.bin", 72, bundle, curves);
     replay_file(Kind::FilterSample, b"filter_sample.bin", 18, bundle, curves);
+    replay_file(Kind::SampleCurve, b"sample_curve.bin", 6, bundle, curves);
+    replay_file(Kind::Transfers, b"transfers.bin", 8, bundle, curves);
+    replay_file(Kind::SamplePoint, b"sample_point.bin", 12, bundle, curves);
     replay_song(b"song.bin", bundle, curves);
     replay_song(b"song_cut.bin", bundle, curves);
     replay_song(b"song_events.bin", bundle, curves);

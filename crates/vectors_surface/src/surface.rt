@@ -28,15 +28,6 @@ pub(crate) fn sample(r: &[u8], bundle: &[u8]) -> bool {
     is_answer(good, answer) & is_word(good, r, 8, wire::float_bits(sampled.value) as u64)
 }
 
-pub(crate) fn sample_curve(r: &[u8], curves: &[u8]) -> bool {
-    let curve = (wire::u32_at(r, 0) % 256) as u8;
-    let input = wire::f32_at(r, 4);
-    let good = floats::is_finite(input);
-    let sampled = direct::sample_curve(curves, curve, input);
-    let answer = sampled.answer;
-    is_answer(good, answer) & is_word(good, r, 8, wire::float_bits(sampled.value) as u64)
-}
-
 pub(crate) fn curve_entry(r: &[u8], curves: &[u8]) -> bool {
     let number = wire::u32_at(r, 0) as usize;
     wire::u32_at(r, 4) == wire::u32_at(curves, 4 * number)

@@ -3,15 +3,17 @@
 //! usage: pictures FOLDER
 //!
 //! - curves.svg: the 31 transfer curves, as built from the bundle.
+//! - points.svg: where on its curve the summer stands in a bar of the demo song.
 //! - cutoff.svg: the filter's frequency over the cutoff code. Quiet sines are run through the filter as one voice.
 //! - response.svg: the three modes over the frequency, at several cutoffs and resonances, by sines too.
 //! - displacement.svg: what a step of the cutoff leaves behind, in the state and in the sound.
 mod chart;
 mod show;
+mod song;
 
 use chart::{between, Axis, Panel, Pen, Picture};
-use show::{bundle_bytes, progress, progress_done};
-use sid_filter::{run_samples, Bundle, Curves, Event, Sample, Script, State, CLOCK_HZ, VOICE_REST, VOICE_SWING};
+use show::{bundle_bytes, grouped, progress, progress_done};
+use sid_filter::{run_samples, sample_point, Bundle, Curves, Event, Sample, Script, State, CLOCK_HZ, VOICE_REST, VOICE_SWING};
 use std::error::Error;
 use std::f64::consts::TAU;
 use std::path::Path;
@@ -48,6 +50,7 @@ fn draw_all(folder: &Path) -> Result<(), Box<dyn Error>> {
     let filter = Filter { curves: Curves::build(&bundle)?, bundle };
     for (name, drawn) in [
         ("curves.svg", curves(&filter.curves)),
+        ("points.svg", points(&filter)?),
         ("cutoff.svg", cutoff_in_hertz(&filter)?),
         ("response.svg", response(&filter)?),
         ("displacement.svg", displacement(&filter)?),
@@ -187,6 +190,54 @@ fn curves(curves: &Curves) -> String {
         }
     }
     picture.finish()
+}
+
+/// The bar of the song whose points are drawn, one for so many events, and the summer's curve in it: two voices, and the two inputs that are
+/// always there.
+const BAR: u32 = 40;
+const POINT_EVERY: usize = 1_999;
+const CURVE: usize = 4;
+
+/// Where the summer stands in a bar, on the whole curve and on the part of it that the bar uses.
+fn points(filter: &Filter) -> Result<String, Box<dyn Error>> {
+    let curve: Vec<f64> = filter.curves.curve(CURVE).map(f64::from).collect();
+    let mut state = State::start();
+    let mut dots = Vec::new();
+    for events in song::bar(BAR, song::Desk::default()).map(|tick| tick.event).collect::<Vec<_>>().chunks(POINT_EVERY) {
+        if let Event::Sample { input_sum, source_energy } = events[0] {
+            let point = sample_point(&filter.bundle, &filter.curves, &state, input_sum, source_energy)?;
+            let (from, to) = (curve[point.index as usize], curve[point.index as usize + 1]);
+            dots.push((point.input(), from + (to - from) * f64::from(point.fraction)));
+        }
+        filter.run(&mut state, events)?;
+    }
+
+    let mut picture = Picture::new(
+        1080,
+        460,
+        "Where the summer stands in a bar of the demo song",
+        &format!(
+            "Bar {BAR}, voices 1 and 2 in the filter: curve {CURVE}. A dot is what sample_point answers for a sample, one in {}: darker where more stand.",
+            grouped(POINT_EVERY)
+        ),
+    );
+    let line: Vec<(f64, f64)> = (0..2_048).step_by(8).map(|at| (at as f64 / 2_047.0, curve[at])).collect();
+    let panels = [
+        ("The whole curve", 86.0, Axis::straight("mean of the inputs", 0.0, 1.0, 0.2, 1), Axis::straight("output", 0.0, 1.0, 0.2, 1)),
+        (
+            "The part that the bar uses",
+            616.0,
+            Axis::straight("mean of the inputs", 0.3, 0.5, 0.05, 2),
+            Axis::straight("output", 0.1, 0.6, 0.1, 1),
+        ),
+    ];
+    for (title, left, across, up) in panels {
+        let panel = Panel { title, left, top: 100.0, width: 420.0, height: 310.0, across, up };
+        picture.panel(&panel);
+        picture.line(&panel, &Pen::new(BLUE, 1.8, ""), &line);
+        picture.dots(&panel, ORANGE, &dots);
+    }
+    Ok(picture.finish())
 }
 
 /// The filter's frequency over the cutoff code, on two scales.

@@ -57,7 +57,10 @@
 //! what swings about this; take the direct voltage out before you play it.
 //!
 //! **Behind the filter.** The volume and voice 3 off, bits 0 to 3 and 7 of [`Event::Mode`], change no sample: they act in the mixer and the
-//! volume DAC, which no call has yet.
+//! volume DAC, which [`mixer`] and [`volume`] ask by themselves.
+//!
+//! **On the curves.** [`sample_point`] says where on its curve the summer stands for a sample, and [`sample_curve`], [`summer`], [`mixer`]
+//! and [`volume`] answer such a [`Point`] too. None of them changes anything.
 #![deny(missing_docs)]
 #![deny(missing_debug_implementations)]
 #![deny(unsafe_code)]
@@ -68,6 +71,7 @@ mod header;
 mod level;
 #[allow(unsafe_code)]
 mod library;
+mod point;
 mod refusal;
 mod run;
 mod script;
@@ -75,6 +79,7 @@ mod state;
 
 pub use bundle::{Bundle, Curves, BUNDLE_BYTES, CURVES_BYTES};
 pub use level::{voice_level, CLOCK_HZ, MODE_REST, VOICE_REST, VOICE_RISE, VOICE_SWING};
+pub use point::{mixer, sample_curve, sample_point, summer, volume, Point};
 pub use refusal::{Buffer, Refusal};
 pub use run::{run, run_bytes, run_samples, samples, Done, Sample, Stop, SAMPLE_BYTES};
 pub use script::{pieces, Event, Full, Pieces, Script, EVENTS_MAX, EVENT_BYTES, SCRIPT_HEADER_BYTES};

@@ -470,3 +470,62 @@ fn a_state_is_its_bytes() {
     assert_eq!((state.cutoff(), state.resonance(), state.routing(), state.mode(), state.volume()), (1_605, 15, 3, 1, 15));
     assert!(state.low() != 0.0 && state.source_energy() > 0.0);
 }
+
+/// Number and bits of a point, zeros beside a refusal.
+fn point_words(point: Result<Point, Refusal>) -> [u32; 4] {
+    match point {
+        Ok(Point { value, index, fraction }) => [0, value.to_bits(), index, fraction.to_bits()],
+        Err(refusal) => [refusal.number(), 0, 0, 0],
+    }
+}
+
+/// The records of a file of the program `vectors_surface`, so many words each.
+fn points<const N: usize>(name: &str) -> Vec<[u32; N]> {
+    let bytes = file(&format!(concat!(env!("CARGO_MANIFEST_DIR"), "/../../crates/vectors_surface/data/{}.bin"), name));
+    let words: Vec<u32> = bytes.chunks_exact(4).map(|word| u32::from_le_bytes(word.try_into().unwrap())).collect();
+    words.chunks_exact(N).map(|record| record.try_into().unwrap()).collect()
+}
+
+/// The points are those that the oracle told.
+#[test]
+fn points_are_those_of_the_vectors() {
+    let (bundle, curves) = (bundle(), curves());
+    for [curve, input, told @ ..] in points::<6>("sample_curve") {
+        assert_eq!(point_words(sample_curve(curves, curve, f32::from_bits(input))), told, "curve {curve} at {input:x}");
+    }
+    for [transfer, first, second, input, told @ ..] in points::<8>("transfers") {
+        let (first, second, input) = (first as u8, second as u8, f32::from_bits(input));
+        let ours = match transfer {
+            0 => summer(&bundle, curves, first, input),
+            1 => mixer(curves, first, second, input),
+            _ => volume(curves, first, input),
+        };
+        assert_eq!(point_words(ours), told, "transfer {transfer}, {first}, {second} at {input}");
+    }
+    for record in points::<12>("sample_point") {
+        let block: Vec<u8> = record[..6].iter().flat_map(|word| word.to_le_bytes()).collect();
+        let state = State::from_bytes(block.try_into().unwrap());
+        let [sum, energy] = [record[6], record[7]].map(f32::from_bits);
+        assert_eq!(point_words(sample_point(&bundle, curves, &state, sum, energy)), record[8..], "{record:x?}");
+    }
+}
+
+/// What a point refuses that the vectors do not reach: lengths, an invalid state, an entry, a sample that leaves the domain.
+#[test]
+fn points_refuse_by_the_table() {
+    let (bundle, state) = (bundle(), State::start());
+    let short = Curves::from_bytes(vec![0; CURVES_BYTES - 1]);
+    assert_eq!(sample_curve(&short, 99, f32::NAN).err(), Some(Refusal::CurvesLength));
+    assert_eq!(sample_point(&bundle, &short, &state, f32::NAN, 0.0).err(), Some(Refusal::CurvesLength));
+    let mut damaged = curves().as_bytes().to_vec();
+    damaged[4..8].copy_from_slice(&f32::INFINITY.to_le_bytes());
+    let damaged = Curves::from_bytes(damaged);
+    assert_eq!(sample_curve(&damaged, 0, 0.0).err(), Some(Refusal::Entry { buffer: Buffer::Curves, place: 4 }));
+    let mut block = *state.as_bytes();
+    block[11] = 1;
+    assert_eq!(sample_point(&bundle, curves(), &State::from_bytes(block), f32::NAN, 0.0).err(), Some(Refusal::Argument));
+    let mut block = *state.as_bytes();
+    block[12..16].copy_from_slice(&3.0e38_f32.to_le_bytes());
+    assert_eq!(sample_point(&bundle, curves(), &State::from_bytes(block), 0.0, f32::NAN).err(), Some(Refusal::InputNotFinite));
+    assert_eq!(sample_point(&bundle, curves(), &State::from_bytes(block), 0.0, 0.0).err(), Some(Refusal::Domain));
+}

@@ -6,8 +6,8 @@ use Rattle.direct.proofs.mixer_transfer.Tie as tie
 mixer-slot-requires : tie.Need-mixer-slot-requires
 mixer-slot-requires c κs = search needs
 
-mixer-transfer-requires : tie.Need-mixer-transfer-requires
-mixer-transfer-requires c κs = search needs
+mixer-point-requires : tie.Need-mixer-point-requires
+mixer-point-requires c κs = search needs
 
 is-finite-requires : tie.Need-is-finite-requires
 is-finite-requires c κs = search needs
@@ -30,8 +30,8 @@ judge-length-requires c κs = search needs
 first-requires-2 : tie.Need-first-requires-2
 first-requires-2 c κs = search needs
 
-judged-value-requires : tie.Need-judged-value-requires
-judged-value-requires c κs = search needs
+judged-point-requires : tie.Need-judged-point-requires
+judged-point-requires c κs = search needs
 
 returns : tie.Need-returns
 unfolding mixerTransferCallOf mixerAnswerOf
@@ -39,7 +39,7 @@ returns c =
     let y = c .before .before .before in
     let z = y .before .before in
     simp (
-      c .judged-value .ensures,
+      c .judged-point .ensures,
       c .before .first2 .ensures,
       c .before .before .judge-length .ensures,
       y .first .ensures,
@@ -47,7 +47,7 @@ returns c =
       z .unless .ensures,
       z .before .is-finite2 .ensures,
       z .before .before .is-finite .ensures,
-      z .before .before .before .mixer-transfer .ensures,
+      z .before .before .before .mixer-point .ensures,
       z .before .before .before .before .mixer-slot .ensures,
     )
 
@@ -56,7 +56,7 @@ mixer-transfer-spec =
     tie.close
     (tie.spec
     mixer-slot-requires
-    mixer-transfer-requires
+    mixer-point-requires
     is-finite-requires
     is-finite-requires-2
     unless-requires
@@ -64,5 +64,5 @@ mixer-transfer-spec =
     first-requires
     judge-length-requires
     first-requires-2
-    judged-value-requires
+    judged-point-requires
     returns)

@@ -6,8 +6,8 @@ use Rattle.direct.proofs.summer_transfer.Tie as tie
 summer-slot-requires : tie.Need-summer-slot-requires
 summer-slot-requires c κs = search needs
 
-summer-transfer-requires : tie.Need-summer-transfer-requires
-summer-transfer-requires c κs = search needs
+summer-point-requires : tie.Need-summer-point-requires
+summer-point-requires c κs = search needs
 
 is-finite-requires : tie.Need-is-finite-requires
 is-finite-requires c κs = search needs
@@ -42,8 +42,8 @@ check-requires c κs = search needs
 first-requires-4 : tie.Need-first-requires-4
 first-requires-4 c κs = search needs
 
-judged-value-requires : tie.Need-judged-value-requires
-judged-value-requires c κs = search needs
+judged-point-requires : tie.Need-judged-point-requires
+judged-point-requires c κs = search needs
 
 returns : tie.Need-returns
 unfolding summerTransferCallOf summerAnswerOf
@@ -52,7 +52,7 @@ returns c =
     let z = y .before .before .before .before in
     let w = z .before .before .before .before in
     simp (
-      c .judged-value .ensures,
+      c .judged-point .ensures,
       c .before .first4 .ensures,
       c .before .before .check .ensures,
       c .before .before .before .first3 .ensures,
@@ -64,7 +64,7 @@ returns c =
       z .before .is-finite2 .ensures,
       z .before .before .unless .ensures,
       z .before .before .before .is-finite .ensures,
-      w .before .summer-transfer .ensures,
+      w .before .summer-point .ensures,
       w .before .before .summer-slot .ensures,
     )
 
@@ -73,7 +73,7 @@ summer-transfer-spec =
     tie.close
     (tie.spec
     summer-slot-requires
-    summer-transfer-requires
+    summer-point-requires
     is-finite-requires
     unless-requires
     is-finite-requires-2
@@ -85,5 +85,5 @@ summer-transfer-spec =
     first-requires-3
     check-requires
     first-requires-4
-    judged-value-requires
+    judged-point-requires
     returns)

@@ -6,8 +6,8 @@ use Rattle.direct.proofs.volume_transfer.Tie as tie
 volume-slot-requires : tie.Need-volume-slot-requires
 volume-slot-requires c κs = search needs
 
-volume-transfer-requires : tie.Need-volume-transfer-requires
-volume-transfer-requires c κs = search needs
+volume-point-requires : tie.Need-volume-point-requires
+volume-point-requires c κs = search needs
 
 is-finite-requires : tie.Need-is-finite-requires
 is-finite-requires c κs = search needs
@@ -27,22 +27,22 @@ judge-length-requires c κs = search needs
 first-requires-2 : tie.Need-first-requires-2
 first-requires-2 c κs = search needs
 
-judged-value-requires : tie.Need-judged-value-requires
-judged-value-requires c κs = search needs
+judged-point-requires : tie.Need-judged-point-requires
+judged-point-requires c κs = search needs
 
 returns : tie.Need-returns
 unfolding volumeTransferCallOf volumeAnswerOf
 returns c =
     let y = c .before .before .before .before in
     simp (
-      c .judged-value .ensures,
+      c .judged-point .ensures,
       c .before .first2 .ensures,
       c .before .before .judge-length .ensures,
       c .before .before .before .first .ensures,
       y .judge-volume .ensures,
       y .before .unless .ensures,
       y .before .before .is-finite .ensures,
-      y .before .before .before .volume-transfer .ensures,
+      y .before .before .before .volume-point .ensures,
       y .before .before .before .before .volume-slot .ensures,
     )
 
@@ -51,12 +51,12 @@ volume-transfer-spec =
     tie.close
     (tie.spec
     volume-slot-requires
-    volume-transfer-requires
+    volume-point-requires
     is-finite-requires
     unless-requires
     judge-volume-requires
     first-requires
     judge-length-requires
     first-requires-2
-    judged-value-requires
+    judged-point-requires
     returns)

@@ -155,6 +155,15 @@ impl Picture {
         self.put(&format!(r#"<path d="{path}" fill="none" {pen} stroke-linejoin="round" clip-path="url(#c{clip})"/>"#));
     }
 
+    /// A dot at each point, cut like a line. Light shines through it, so that many in one place are darker than one.
+    pub fn dots(&mut self, panel: &Panel, colour: &str, points: &[(f64, f64)]) {
+        self.put(&format!(r#"<g fill="{colour}" fill-opacity="0.3" clip-path="url(#c{})">"#, self.clips));
+        for (x, y) in points {
+            self.put(&format!(r#"<circle cx="{:.1}" cy="{:.1}" r="3.5"/>"#, panel.x(*x), panel.y(*y)));
+        }
+        self.put("</g>");
+    }
+
     /// A stroke of a pen with what it stands for beside it.
     pub fn key(&mut self, x: f64, y: f64, length: f64, pen: &Pen, text: &str) {
         self.put(&format!(r#"<path d="M{x:.1} {:.1}h{length:.1}" {}/>"#, y - 4.5, pen.attributes()));
