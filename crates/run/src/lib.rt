@@ -479,8 +479,9 @@ pub fn run(
     ensures { λ _. ⌜ now (state .exit) ≡ R.runOf (lentOf (now (bundle .entry)) (now (curves .entry))) (now (state .entry)) (now (script .entry)) (now (output .entry)) .state ⌝ }
     ensures { λ _. ⌜ now (output .exit) ≡ R.runOf (lentOf (now (bundle .entry)) (now (curves .entry))) (now (state .entry)) (now (script .entry)) (now (output .entry)) .output ⌝ }
 {
+    let decoded = State::decode(state);
     let lent = filter::judge_lent(bundle, curves);
-    let control::DecodedState::Valid(from) = State::decode(state) else {
+    let control::DecodedState::Valid(from) = decoded else {
         return turned_back(answers::first(lent, Answer::Argument));
     };
     let judged = answers::first(lent, judge_script(script, output.len()));

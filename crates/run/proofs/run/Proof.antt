@@ -8,14 +8,14 @@ use borrow.Author.Needs.{needs}
 use Rattle.run.proofs.run.Statement.{statement}
 use Rattle.run.proofs.run.Tie as tie
 
-judge-lent-requires : tie.Need-judge-lent-requires
-judge-lent-requires c κs = search needs
-
 decode-requires : tie.Need-decode-requires
 decode-requires c κs = search needs
 
-enum-known-from : tie.Need-enum-known-from
-enum-known-from c = search needs
+judge-lent-requires : tie.Need-judge-lent-requires
+judge-lent-requires c κs = search needs
+
+enum-known-decoded : tie.Need-enum-known-decoded
+enum-known-decoded c = search needs
 
 enum-told : tie.Need-enum-told
 enum-told c = search needs
@@ -31,9 +31,9 @@ same-length c = search needs
 
 returns : tie.Need-returns
 returns c =
-    let lent = c .before .before .before .before .before .before .judge-lent .ensures in
+    let lent = c .before .before .before .before .judge-lent .ensures in
     rw (c .turned-back .ensures)
-    (invalid-refused _ _ _ _ (c .before .before .before .before .decode .ensures) (c .before .before .enum-told .given .1) (c .before .first .ensures ∙ ap (λ (l : Answer). firstOf l Argument) lent))
+    (invalid-refused _ _ _ _ (c .before .before .before .before .before .decode .ensures) (c .before .before .enum-told .given .1) (c .before .first .ensures ∙ ap (λ (l : Answer). firstOf l Argument) lent))
 
 judge-script-requires : tie.Need-judge-script-requires
 judge-script-requires c κs = search needs
@@ -49,8 +49,8 @@ play-from-requires c κs =
     let j = c .before .before .before in
     let v = j .before .before .before in
     let d = v .before .before in
-    let is = simp (d .before .before .judge-lent .ensures, j .before .judge-script .ensures) at (j .first2 .ensures) in
-    valid-fine _ _ _ _ (d .decode .ensures) (v .from .given .1) _ is (done-is _ (sym (c .before .before .is-done .ensures) ∙ c .before .if1 .taken))
+    let is = simp (d .judge-lent .ensures, j .before .judge-script .ensures) at (j .first2 .ensures) in
+    valid-fine _ _ _ _ (d .before .decode .ensures) (v .decoded .given .1) _ is (done-is _ (sym (c .before .before .is-done .ensures) ∙ c .before .if1 .taken))
 
 encode-requires : tie.Need-encode-requires
 encode-requires c κs = search needs
@@ -67,9 +67,9 @@ returns-2 c =
     let j = p .before .before .before .before in
     let v = j .before .before .before in
     let d = v .before .before in
-    let is = simp (d .before .before .judge-lent .ensures, j .before .judge-script .ensures) at (j .first2 .ensures) in
+    let is = simp (d .judge-lent .ensures, j .before .judge-script .ensures) at (j .first2 .ensures) in
     let done = done-is _ (sym (p .before .before .before .is-done .ensures) ∙ p .before .before .if1 .taken) in
-    valid-done _ _ _ _ (d .decode .ensures) (v .from .given .1) _ is done (p .play-from .ensures .0) (p .play-from .ensures .1) (c .before .before .encode .ensures)
+    valid-done _ _ _ _ (d .before .decode .ensures) (v .decoded .given .1) _ is done (p .play-from .ensures .0) (p .play-from .ensures .1) (c .before .before .encode .ensures)
 
 turned-back-requires-2 : tie.Need-turned-back-requires-2
 turned-back-requires-2 c κs = search needs
@@ -82,16 +82,16 @@ returns-3 c =
     let j = c .before .before .before in
     let v = j .before .before .before in
     let d = v .before .before in
-    let is = simp (d .before .before .judge-lent .ensures, j .before .judge-script .ensures) at (j .first2 .ensures) in
-    rw (c .turned-back2 .ensures) (run-refused _ _ _ _ (valid-judged _ _ _ _ (d .decode .ensures) (v .from .given .1) _ is) (sym (c .before .before .is-done .ensures) ∙ c .before .if1 .left))
+    let is = simp (d .judge-lent .ensures, j .before .judge-script .ensures) at (j .first2 .ensures) in
+    rw (c .turned-back2 .ensures) (run-refused _ _ _ _ (valid-judged _ _ _ _ (d .before .decode .ensures) (v .decoded .given .1) _ is) (sym (c .before .before .is-done .ensures) ∙ c .before .if1 .left))
 
 pub run-spec : {M : Type 1} → statement M
 run-spec =
     tie.close
     (tie.spec
-    judge-lent-requires
     decode-requires
-    enum-known-from
+    judge-lent-requires
+    enum-known-decoded
     enum-told
     first-requires
     turned-back-requires
