@@ -16,7 +16,7 @@ ranAnswerOf r = runAnswerOf (r .answer) (r .events) (r .samples)
 
 -- The same without the counts of a run.
 abbrev pub uncountedOf : RunAnswer → RunAnswer
-uncountedOf told = record { number = told .number; events = 0; samples = 0; buffer = told .buffer; place = told .place }
+uncountedOf ran = record { number = ran .number; events = 0; samples = 0; buffer = ran .buffer; place = ran .place }
 
 -- A point as C has it.
 abbrev pub pointAnswerOf : Pointed → PointAnswer

@@ -141,15 +141,15 @@ fn tried(bundle: &[u8], curves: &[u8], block: &[u8], script: &[u8]) -> RunAnswer
 }
 
 // An answer without the counts of a run.
-fn uncounted(told: RunAnswer) -> RunAnswer
-    ensures { λ r. ⌜ r ≡ uncountedOf told ⌝ }
+fn uncounted(ran: RunAnswer) -> RunAnswer
+    ensures { λ r. ⌜ r ≡ uncountedOf ran ⌝ }
 {
     RunAnswer {
-        number: told.number,
+        number: ran.number,
         events: 0,
         samples: 0,
-        buffer: told.buffer,
-        place: told.place,
+        buffer: ran.buffer,
+        place: ran.place,
     }
 }
 
