@@ -11,6 +11,7 @@ mod direct;
 mod events;
 mod kept;
 mod line;
+mod loads;
 mod numbers;
 mod plain;
 mod points;
@@ -27,6 +28,7 @@ fn main() {
     subjects.extend(sample::compare());
     subjects.extend(direct::compare());
     subjects.extend(points::compare());
+    subjects.extend(loads::compare());
     subjects.extend(core::compare());
     subjects.extend(run::compare());
     subjects.extend(events::compare());

@@ -62,6 +62,11 @@ fn main() {
     save("filter_sample", filter_samples(&mut filter));
     save("transfers", transfers(&mut filter, &mut ruled));
     save("sample_point", sample_points(&mut filter, &mut ruled));
+    write("header", &bundle[..14]);
+    let (zero_signs, whole_loads) = whole_loads(bundle[8]).into_iter().partition(|record| record[10] != record[11]);
+    save("whole_loads", whole_loads);
+    save("zero_signs", zero_signs);
+    save("summer_at_rest", summer_at_rest(bundle[8], &mut ruled));
     for (name, bytes) in song::files(&mut filter) {
         write_bytes(name, &bytes);
     }
@@ -1150,6 +1155,96 @@ fn sample_points(filter: &mut Filter, ruled: &mut Ruled) -> Vec<[u32; 12]> {
         }
     }
     records
+}
+
+// ---- Whole loads, on surfaces of zeros but for four entries
+
+/// The entries about a load and an input: lower left, lower right, upper left, upper right, each with its index in the surface's table.
+struct Corners([(usize, f32); 4]);
+
+impl Corners {
+    fn about(load: u32, input: f32, [lower_left, lower_right, upper_left, upper_right]: [f32; 4]) -> Self {
+        let (lower, upper, _) = AnalogueTransferSurface::load_position(load as f32).parts();
+        let column = AnalogueTransferSurface::sample_curve(&rulers()[0], input) as usize;
+        let next = (column + 1).min(2047);
+        Corners([(lower + column, lower_left), (lower + next, lower_right), (upper + column, upper_left), (upper + next, upper_right)])
+    }
+
+    fn surface(&self) -> AnalogueTransferSurface {
+        let mut entries = vec![0.0; SID_ANALOGUE_LOAD_BINS * 2048];
+        for &(index, entry) in &self.0 {
+            entries[index] = entry;
+        }
+        AnalogueTransferSurface::of(entries)
+    }
+
+    /// The byte of each in a bundle whose surface begins at byte `from`, and its bits.
+    fn words(&self, from: u32) -> [u32; 8] {
+        joined(self.0.map(|(index, entry)| [from + 4 * index as u32, word(entry)]).each_ref().map(|words| &words[..]))
+    }
+}
+
+/// Every four of both zeros and both smallest floats, between which zeros of either sign come out.
+fn near_zero() -> Vec<[f32; 4]> {
+    const NEAR: [f32; 4] = [0.0, -0.0, f32::from_bits(1), -f32::from_bits(1)];
+    (0..256).map(|four| std::array::from_fn(|corner| NEAR[four >> (2 * corner) & 3])).collect()
+}
+
+/// Any entries, some of them ends.
+fn any_entries(random: &mut Random) -> [f32; 4] {
+    std::array::from_fn(|_| match random.below(2) {
+        0 => random.pick(&[0.0, -0.0, f32::from_bits(1), 1024.0, -1024.0]),
+        _ => random.between(-1.0, 1.0),
+    })
+}
+
+/// Four entries, a load of 0 to 6 and an input; what the surface gives and what the curve built at that load gives. First, at every load, entries
+/// of which the two are zeros that differ in sign; then those near zero at the fractions 0.75, 0.5 and 0.25; then any.
+fn whole_loads(from: u32) -> Vec<[u32; 12]> {
+    let mut random = Random::of("whole_loads");
+    let smallest = f32::from_bits(1);
+    let mut cases: Vec<(u32, f32, [f32; 4])> = (0..7).map(|load| (load, 0.5, [-0.0, -smallest, -smallest, smallest])).collect();
+    for input in [0.25, 0.5, 0.75] {
+        cases.extend(near_zero().into_iter().map(|entries| (random.below(7), input, entries)));
+    }
+    cases.extend(ENDS.iter().filter(|input| input.is_finite()).map(|&input| (random.below(7), input, any_entries(&mut random))));
+    cases.extend((0..256).map(|_| (random.below(7), random.between(0.0, 1.0), any_entries(&mut random))));
+    cases
+        .into_iter()
+        .map(|(load, input, entries)| {
+            let corners = Corners::about(load, input, entries);
+            let surface = corners.surface();
+            let curve = surface.build_load_curve(AnalogueTransferSurface::load_position(load as f32));
+            let (sampled, read) = (surface.sample(load as f32, input), AnalogueTransferSurface::sample_curve(&curve, input));
+            joined([&corners.words(from), &[load, word(input)], &[word(sampled), word(read)]])
+        })
+        .collect()
+}
+
+/// Four entries about the summer's rest with no input routed, and a sum of 0 of either sign; number, value, index and fraction of the summer.
+fn summer_at_rest(from: u32, ruled: &mut Ruled) -> Vec<[u32; 13]> {
+    let mut random = Random::of("summer_at_rest");
+    let mut filter = Filter::new();
+    let rest = filter_mode_quiescent_level();
+    let mut cases = near_zero();
+    cases.extend((0..256).map(|_| any_entries(&mut random)));
+    cases
+        .into_iter()
+        .map(|entries| {
+            let corners = Corners::about(2, rest, entries);
+            let surface = corners.surface();
+            let curves = filter.curves_mut();
+            curves.summer[2] = surface.build_load_curve(AnalogueTransferSurface::load_position(2.0));
+            curves.summer_resting_output[2] = surface.sample(2.0, rest);
+            let (sum, mode) = (random.pick(&[0.0, -0.0]), random.bits() as u8);
+            let ask = |filter: &mut Filter| {
+                filter.write_signal_routing(0);
+                filter.write_mode_and_volume(mode);
+                filter.summer(sum)
+            };
+            joined([&corners.words(from), &[word(sum)], &point(0, ask(&mut filter), ruled.told(ask))])
+        })
+        .collect()
 }
 
 /// Says from what zero an iterator's sum of floats starts in this compiler.

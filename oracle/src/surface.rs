@@ -89,8 +89,8 @@ pub mod proved {
 }
 
 pub const CURVES_LENGTH: usize = 254_076;
-const SURFACE: usize = 2_105_464;
-const SURFACE_ENTRIES: usize = 296_960;
+pub const SURFACE: usize = 2_105_464;
+pub const SURFACE_ENTRIES: usize = 296_960;
 
 pub fn compare() -> Vec<(&'static str, Tally)> {
     let bundle = data("bundle");
@@ -127,7 +127,7 @@ pub fn curves_of(filter: &Filter) -> Vec<u8> {
     curves.summer.iter().chain(&curves.mixer).chain(&curves.volume).flat_map(|curve| bytes(&curve[..])).collect()
 }
 
-fn built(bundle: &[u8]) -> Vec<u8> {
+pub fn built(bundle: &[u8]) -> Vec<u8> {
     let mut curves = vec![0xa5; CURVES_LENGTH];
     assert_eq!(proved::build_curves(bundle, &mut curves).number, 0);
     curves

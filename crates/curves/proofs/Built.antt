@@ -51,7 +51,7 @@ module _ (bundle : List ℕ) where
 
 -- On an accepted bundle no sample of the surface is refused.
 module _ (bundle : List ℕ) (a : Accepted bundle) where
-  corner : (base index : ℕ) → base ≤ lastBase → index ≤ lastInput → usableAt bundle (tablePlace (base + index)) ≡ true
+  pub corner : (base index : ℕ) → base ≤ lastBase → index ≤ lastInput → usableAt bundle (tablePlace (base + index)) ≡ true
   corner base index h l = section-done bundle analogueSurface (surface-usable bundle a) (base + index) (omega arith)
 
   pub sample-accepted : (conductance input : Float) → judgePlacesOf Bundle bundle (samplePlacesOf conductance input) ≡ Done

@@ -1,3 +1,4 @@
 pub mod MixerInputs
 pub mod CurveNumber
 pub mod Placed
+pub mod WholeLoads

@@ -1,9 +1,8 @@
 -- Numbers that follow from the registers alone are finite: those of the output, the feedback and the modulation by bounds on their parts, the couplings and the lift,
 -- which divide by numbers that are not whole, by computing them at each code of at most 2,047 and at each resonance. Assumes nothing.
-use Prim.Native.Nat.{ℕ, zero, suc, _+_, _^_, _<_, _≤_}
-use mathlib.Core.Path.{_≡_, refl, ap, _∙_}
-use mathlib.Core.Bool.{Bool, true, _&&_}
-use mathlib.Core.Logic.{⊎-elim}
+use Prim.Native.Nat.{ℕ, _+_, _^_, _<_, _≤_}
+use mathlib.Core.Path.{_≡_, refl}
+use mathlib.Core.Bool.{Bool, true}
 use native.Mathlib.Omega.{arith}
 use lib.Dec.{lit<, lit≤}
 use lib.IntN.{pos}
@@ -11,11 +10,11 @@ use lib.Ieee.{Float, binary32, ofInt, ofBits, mul, add, sub, div, lt}
 use lib.Ieee.Scale.{finite}
 use Rattle.constants.specs.Values as K
 use Rattle.floats.specs.Arithmetic.{_⊕_, _⊖_, _⊗_, f32}
-use Rattle.floats.proofs.Sized.{Sized, sized-finite, sized-more, literal-sized, ofInt-sized, quotient-sized, cond-sized, add-sized, sub-sized, mul-sized}
+use Rattle.floats.proofs.Sized.{Sized, sized-finite, sized-more, literal-sized, ofInt-sized, quotient-sized, cond-sized, between-sized, add-sized, sub-sized, mul-sized}
 use Rattle.response.specs.Bits.{bit}
-use Rattle.response.specs.Levels.{addIf, interpolateOf, cutoffPositionOf, filterOutputCommonModeOf}
-use Rattle.floats.proofs.Laws.{both}
-use Rattle.wire.proofs.Laws.{le-or-lt}
+use Rattle.response.specs.Levels.{addIf, cutoffPositionOf, filterOutputCommonModeOf}
+use Rattle.wire.specs.First.{every}
+use Rattle.wire.proofs.First.{every-true}
 use Rattle.control.specs.declared.FilterRegisters.{FilterRegisters}
 use Rattle.controls.specs.Judging.{finiteOutputOf}
 use Rattle.controls.specs.Controls.{refreshRegisterOutputStateOf, highPassLowCouplingOf, bandPassLowCouplingOf, resonancePartOf}
@@ -35,10 +34,6 @@ fraction-sized n h = quotient-sized binary32 17 15 (lit< tt) (lit≤ tt) (omega 
 
 -- ---- the output's common mode
 
--- Between two levels of at most 1, by the cutoff's position.
-between-sized : {lower upper fraction : Float} → Sized lower 1 → Sized upper 1 → Sized fraction 33 → Sized (interpolateOf lower upper fraction) 67
-between-sized l u p = add-sized binary32 (lit≤ tt) l (mul-sized binary32 (lit≤ tt) (sub-sized binary32 (lit≤ tt) u l) p)
-
 -- A bit of the mode adds its level or nothing.
 addIf-sized : (on : Bool) {sum x : Float} {j k : ℕ} → j + k ≤ 2 ^ 24 → Sized sum j → Sized x k → Sized (addIf on sum x) (j + k)
 addIf-sized on K u v = cond-sized on (add-sized binary32 K u v) (sized-more (omega arith) u)
@@ -48,9 +43,9 @@ common-sized : (mode cutoff : ℕ) → cutoff < 65536 → Sized (filterOutputCom
 unfolding filterOutputCommonModeOf ofBits
 common-sized mode cutoff h =
     let p = position-sized cutoff h in
-    let low = between-sized (literal-sized K.FILTER-LOWPASS-COMMON-MODE-FC-0 1 (lit≤ tt)) (literal-sized K.FILTER-LOWPASS-COMMON-MODE-FC-2047 1 (lit≤ tt)) p in
-    let band = between-sized (literal-sized K.FILTER-BANDPASS-COMMON-MODE-FC-0 1 (lit≤ tt)) (literal-sized K.FILTER-BANDPASS-COMMON-MODE-FC-2047 1 (lit≤ tt)) p in
-    let high = between-sized (literal-sized K.FILTER-HIGHPASS-COMMON-MODE-FC-0 1 (lit≤ tt)) (literal-sized K.FILTER-HIGHPASS-COMMON-MODE-FC-2047 1 (lit≤ tt)) p in
+    let low = between-sized binary32 (lit≤ tt) (lit≤ tt) (literal-sized K.FILTER-LOWPASS-COMMON-MODE-FC-0 1 (lit≤ tt)) (literal-sized K.FILTER-LOWPASS-COMMON-MODE-FC-2047 1 (lit≤ tt)) p in
+    let band = between-sized binary32 (lit≤ tt) (lit≤ tt) (literal-sized K.FILTER-BANDPASS-COMMON-MODE-FC-0 1 (lit≤ tt)) (literal-sized K.FILTER-BANDPASS-COMMON-MODE-FC-2047 1 (lit≤ tt)) p in
+    let high = between-sized binary32 (lit≤ tt) (lit≤ tt) (literal-sized K.FILTER-HIGHPASS-COMMON-MODE-FC-0 1 (lit≤ tt)) (literal-sized K.FILTER-HIGHPASS-COMMON-MODE-FC-2047 1 (lit≤ tt)) p in
     addIf-sized (bit mode 2) (lit≤ tt) (addIf-sized (bit mode 1) (lit≤ tt) (addIf-sized (bit mode 0) (lit≤ tt) (literal-sized (f32 0) 0 (lit≤ tt)) low) band) high
 
 -- The mixer's offset with two voices.
@@ -102,38 +97,26 @@ module _ (r : ℕ) (h : r < 256) where
 
 -- ---- a code's couplings and a resonance's lift, computed
 
--- A test at every number below n.
-unfoldable below : (ℕ → Bool) → ℕ → Bool
-below ok zero = true
-below ok (suc n) = ok n && below ok n
-
-below-at : (ok : ℕ → Bool) (n : ℕ) → below ok n ≡ true → (k : ℕ) → k < n → ok k ≡ true
-unfolding below
-below-at ok zero e k h = absurd (omega arith)
-below-at ok (suc n) e k h =
-    let w = both (ok n) (below ok n) e in
-    ⊎-elim (λ (g : n ≤ k). let q : k ≡ n = omega arith in ap ok q ∙ w .0) (λ (g : k < n). below-at ok n (w .1) k g) (le-or-lt n k)
-
 abbrev codeOf : ℕ → Float
 codeOf n = ofInt binary32 (pos n)
 
-high-couplings : below (λ n. finite (highPassLowCouplingOf (codeOf n))) 2048 ≡ true
-unfolding below ofInt ofBits add div
+high-couplings : every (λ n. finite (highPassLowCouplingOf (codeOf n))) 2048 ≡ true
+unfolding every ofInt ofBits add div
 high-couplings = refl
 
-band-couplings : below (λ n. finite (bandPassLowCouplingOf (codeOf n))) 2048 ≡ true
-unfolding below ofInt ofBits mul add div
+band-couplings : every (λ n. finite (bandPassLowCouplingOf (codeOf n))) 2048 ≡ true
+unfolding every ofInt ofBits mul add div
 band-couplings = refl
 
-lifts : below (λ r. finite (resonanceOutputGainOf (liftPositionOf (resonancePartOf r)))) 256 ≡ true
-unfolding below ofInt ofBits mul add sub div lt
+lifts : every (λ r. finite (resonanceOutputGainOf (liftPositionOf (resonancePartOf r)))) 256 ≡ true
+unfolding every ofInt ofBits mul add sub div lt
 lifts = refl
 
 pub high-coupling-finite : (n : ℕ) → n < 2048 → finite (highPassLowCouplingOf (codeOf n)) ≡ true
-high-coupling-finite n h = below-at (λ n. finite (highPassLowCouplingOf (codeOf n))) 2048 high-couplings n h
+high-coupling-finite n h = every-true (λ n. finite (highPassLowCouplingOf (codeOf n))) 2048 high-couplings n h
 
 pub band-coupling-finite : (n : ℕ) → n < 2048 → finite (bandPassLowCouplingOf (codeOf n)) ≡ true
-band-coupling-finite n h = below-at (λ n. finite (bandPassLowCouplingOf (codeOf n))) 2048 band-couplings n h
+band-coupling-finite n h = every-true (λ n. finite (bandPassLowCouplingOf (codeOf n))) 2048 band-couplings n h
 
 pub lift-finite : (r : ℕ) → r < 256 → finite (resonanceOutputGainOf (liftPositionOf (resonancePartOf r))) ≡ true
-lift-finite r h = below-at (λ r. finite (resonanceOutputGainOf (liftPositionOf (resonancePartOf r)))) 256 lifts r h
+lift-finite r h = every-true (λ r. finite (resonanceOutputGainOf (liftPositionOf (resonancePartOf r)))) 256 lifts r h

@@ -5,3 +5,4 @@ pub mod Range
 pub mod Rounding
 pub mod Sized
 pub mod Numbers
+pub mod Values

@@ -13,16 +13,15 @@ use native.Mathlib.Omega.{arith}
 use borrow.Author.Tests.{ltb-true, ltb-false}
 use lib.IntN.{ℤ, pos, negsuc}
 use lib.Dec.{T, ltb, eqb, ltb→lt, lt→ltb, eqb→eq, lit<, lit≤}
-use lib.Pow.{pow-add, pow-pos}
+use lib.Pow.{pow-pos}
 use lib.Ieee.{Float, nan, inf, fin, Format, binary32, binary64, prec, emax, low, up, down, round, sub, mul, div, lt, le, ofInt, ofBits, toUnsigned, fits, isNan}
 use lib.Ieee.Fits.{up-pos, down-pos, and-i, and-l, and-r, eq→eqb, mul-fits, div-fits}
-use lib.Ieee.Digits.{back}
 use lib.Ieee.Exact.{HasValue, round-exact}
 use lib.Ieee.Order.{le-of-values, round-mono}
 use lib.Ieee.Scale.{finite, round-same}
 use lib.Ieee.Back.{round-whole}
 use Rattle.floats.specs.Floats.{clampOf}
-use Rattle.floats.proofs.Formats.{held, exact, pow-le}
+use Rattle.floats.proofs.Formats.{held, exact, deep-units}
 use Rattle.floats.proofs.Laws.{uncapped}
 
 abbrev pub Within : Float → ℕ → Type 0
@@ -32,7 +31,7 @@ Within (fin true m e) k = m ≡ 0
 Within (fin false m e) k = m * up e ≤ k * down e
 
 -- ---- numbers
-no-factor : (m u : ℕ) → 0 < u → m * u ≡ 0 → m ≡ 0
+pub no-factor : (m u : ℕ) → 0 < u → m * u ≡ 0 → m ≡ 0
 no-factor m u U h = elim (eq-zero-or-pos m) [ inl z ↦ z | inr p ↦ absurd (clash (m * u) (mul-pos p U) h) ]
   where
     clash : (a : ℕ) → 0 < a → a ≡ 0 → ⊥
@@ -97,7 +96,7 @@ zero-within (inf s) c k C h = h
 zero-within (fin true m e) c k C h = no-factor m (up e) (up-pos e) (no-factor (m * up e) c C (h .1 ∙ zero-mul (down e)))
 zero-within (fin false m e) c k C h = absurd (true≢false (sym (h .0)))
 
-round-zero : (f : Format) (s : Bool) (a c : ℕ) → 0 < c → a ≡ 0 → HasValue (round f s a c) s 0 c
+pub round-zero : (f : Format) (s : Bool) (a c : ℕ) → 0 < c → a ≡ 0 → HasValue (round f s a c) s 0 c
 round-zero f s a c C h =
     subst (λ (z : ℕ). HasValue (round f s z c) s 0 c) (sym h)
     (round-exact f s 0 c 0 0 C (pow-pos (prec f)) (pow-pos (low f + suc (emax f))) (zero-mul (2 ^ low f) ∙ sym (zero-mul c)))
@@ -237,7 +236,7 @@ rest-value f (suc m) (negsuc k) t =
     exact f false q d q (low f - suc k) (pow-pos (suc k))
     (lt-of-le-of-lt (le-trans (mod-le (suc m * 1) d) (le-of-eq (mul-one (suc m)))) (h .few))
     (lt-of-lt-of-le (mod-lt (suc m * 1) (pow-pos (suc k))) (le-trans (le-of-eq (sym (one-mul d))) (mul-le-mul-right d (pow-pos (suc (emax f))))))
-    (ap (λ (z : ℕ). q * 2 ^ z) (sym (back (low f) (suc k) (pow-le k (low f) (h .deep)))) ∙ ap (λ (z : ℕ). q * z) (pow-add 2 (low f - suc k) (suc k)) ∙ sym (mul-assoc q (2 ^ (low f - suc k)) d))
+    (deep-units f q k (h .deep))
 
 -- x less a whole number l that is no larger
 sub-whole : (f : Format) (m : ℕ) (e : ℤ) (y : Float) (l : ℕ) → HasValue y false l 1 → l * down e ≤ m * up e → sub f (fin false m e) y ≡ round f false (m * up e - l * down e) (down e)

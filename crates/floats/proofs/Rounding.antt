@@ -16,7 +16,7 @@ use lib.Ieee.Fits.{up-pos, down-pos, round-is, round-fits}
 use lib.Ieee.Scale.{round-same}
 use lib.Ieee.Back.{whole-unique}
 use Rattle.floats.specs.Floats.{absOf, roundOf, ofSmall}
-use Rattle.floats.proofs.Formats.{Held, held, exact, pow-le}
+use Rattle.floats.proofs.Formats.{Held, held, exact, own-units}
 use Rattle.floats.proofs.Laws.{uncapped, value-whole, cast-below, cast-above, small-exact}
 
 -- ---- the sign
@@ -41,17 +41,9 @@ neg-round f s a c = ap neg (round-is f s a c) ∙ neg-units f s _ _ ∙ sym (rou
 
 -- in units of the format's smallest value
 doubled-units : (f : Format) (m : ℕ) (e : ℤ) → Held f m e → (j : ℕ) × (2 * (m * up e) * 2 ^ low f ≡ m * 2 ^ j * down e)
-doubled-units f m (pos k) h = (suc k + low f, simp (pow-add, pow-succ', mul-one, mul-assoc, mul-left-comm))
-doubled-units f m (negsuc k) h = (low f - k, shuffle (2 ^ (low f - k)) (2 ^ low f) (2 ^ suc k) power)
-  where
-    shuffle : (a l d : ℕ) → a * d ≡ 2 * l → 2 * (m * 1) * l ≡ m * a * d
-    shuffle a l d h = simp mul-one (mul-assoc 2 m l ∙ mul-left-comm 2 m l ∙ ap (λ (n : ℕ). m * n) (sym h) ∙ sym (mul-assoc m a d))
-
-    power : 2 ^ (low f - k) * 2 ^ suc k ≡ 2 * 2 ^ low f
-    power = sym (pow-add 2 (low f - k) (suc k)) ∙ ap (λ (n : ℕ). 2 ^ n) (room (low f) k (pow-le k (low f) (h .deep))) ∙ pow-succ' 2 (low f)
-      where
-        room : (l k : ℕ) → suc k ≤ l → l - k + suc k ≡ suc l
-        room l k h = omega arith
+doubled-units f m e h =
+    let j = own-units f m e h in
+    (suc (j .0), mul-assoc 2 (m * up e) (2 ^ low f) ∙ ap (λ (n : ℕ). 2 * n) (j .1) ∙ simp (pow-succ', mul-assoc, mul-left-comm))
 
 doubled : (f : Format) (m : ℕ) (e : ℤ) → Held f m e → 2 * (m * up e) < 2 ^ suc (emax f) * down e → HasValue (add f (fin false m e) (fin false m e)) false (2 * (m * up e)) (down e)
 unfolding add sum

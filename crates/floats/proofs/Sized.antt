@@ -48,7 +48,7 @@ cond-sized true u v = u
 cond-sized false u v = v
 
 -- A number between zero and k is at most k in magnitude.
-within-sized : (x : Float) {k : ℕ} → Within x k → Sized x k
+pub within-sized : (x : Float) {k : ℕ} → Within x k → Sized x k
 within-sized nan h = absurd h
 within-sized (inf s) h = absurd h
 within-sized (fin true m e) h = record { magnitude = rw (h, zero-mul) zero-le }
@@ -124,3 +124,12 @@ mul-sized f {x = fin s m e} {y = inf t} K u v = absurd (v .magnitude)
 mul-sized f {x = fin s m e} {y = fin t n d} {j} {k} K u v =
     round-sized f _ (m * up e * (n * up d)) (down e * down d) (mul-pos (down-pos e) (down-pos d)) K
     (le-trans (mul-le-mul (u .magnitude) (v .magnitude)) (le-of-eq (mul-mul-mul-comm j (down e) k (down d))))
+
+-- What lies between two floats, by a fraction.
+abbrev pub between : Format → Float → Float → Float → Float
+between f lower upper fraction = add f lower (mul f (sub f upper lower) fraction)
+
+-- It is at most as far from the lower one as the fraction of both bounds.
+pub between-sized : (f : Format) {lower upper fraction : Float} {j k : ℕ} → j + j ≤ 2 ^ prec f → j + (j + j) * k ≤ 2 ^ prec f
+    → Sized lower j → Sized upper j → Sized fraction k → Sized (between f lower upper fraction) (j + (j + j) * k)
+between-sized f J K l u p = add-sized f K l (mul-sized f (omega arith) (sub-sized f J u l) p)

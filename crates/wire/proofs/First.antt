@@ -1,4 +1,4 @@
--- Laws of `first`, and of the entries that do not lie whole in the bytes.
+-- Laws of `first` and `every`, and of the entries that do not lie whole in the bytes.
 use Prim.Native.Nat.{ℕ, zero, suc, _+_, _-_, _*_, _≤_, _<_}
 use mathlib.Core.Path.{_≡_, refl, ap, subst, _∙_}
 use mathlib.Core.Bool.{Bool, true, false, cond}
@@ -79,14 +79,16 @@ module _ (s : List ℕ) (from n : ℕ) where
   unfolding usableEntry
   all-usable h = first-is (usableEntry s from) n 0 n (omega arith) (omega arith) (λ k _. h k) (λ l. absurd (omega arith))
 
--- ---- blocks
+-- ---- a test at every number below n
 
-every-true : (ok : ℕ → Bool) (n : ℕ) → every ok n ≡ true → (k : ℕ) → k < n → ok k ≡ true
+pub every-true : (ok : ℕ → Bool) (n : ℕ) → every ok n ≡ true → (k : ℕ) → k < n → ok k ≡ true
 unfolding every
 every-true ok zero e k l = absurd (omega arith)
 every-true ok (suc n) e k l =
     let w = both (every ok n) (ok n) e in
     ⊎-elim (λ (h : n ≤ k). let q : k ≡ n = omega arith in ap ok q ∙ w .1) (λ (h : k < n). every-true ok n (w .0) k h) (le-or-lt n k)
+
+-- ---- blocks
 
 -- a usable block at entry i: there are 64 left, and where the entries before i are usable so are those before i + 64
 module _ (s : List ℕ) (from i left : ℕ) (e : blockUsableOf s (from + 4 * i) left ≡ true) where

@@ -1,16 +1,18 @@
 -- `usable` on the bits is the same on the float: finite and at most 1,024 in magnitude.
 use Prim.Native.Nat.{ℕ, zero, suc, _+_, _*_, _/_, _%_, _^_, _≤_, _<_}
 use mathlib.Core.Path.{_≡_, refl, ap, sym, _∙_}
-use mathlib.Core.Bool.{Bool, true, false, cond}
+use mathlib.Core.Bool.{Bool, true, false, cond, true≢false}
 use mathlib.Core.Logic.{⊎-elim}
 use native.Mathlib.Omega.{arith}
 use native.Mathlib.Nat.{le-trans, le-of-eq, mul-right-comm, mul-le-mul-right, mul-le-mul-left, mul-lt-mul-of-pos-right, le-of-mul-le-mul-right}
-use lib.Dec.{leb, eqb, lit≤}
+use lib.Dec.{T, leb, eqb, lit≤}
 use lib.Pow.{pow-pos, pow-mono}
-use lib.Ieee.{Float, nan, inf, fin, binary32, up, down, odd, ofFields, ofBits}
+use lib.Ieee.{Float, nan, inf, fin, binary32, up, down, odd, ofFields, ofBits, toBits, fits}
+use lib.Ieee.Bits.{ofBits-toBits}
 use lib.Ieee.Fits.{down-pos}
 use lib.Ieee.Exact.{HasValue, odd-sign}
-use borrow.Author.Tests.{le-leb, lt-leb, eqb-true}
+use borrow.Author.Tests.{le-leb, lt-leb, leb-true, eqb-true}
+use Rattle.floats.proofs.Sized.{Sized}
 use Rattle.wire.specs.Wire.{usableOf}
 use Rattle.wire.proofs.Laws.{le-or-lt}
 
@@ -92,3 +94,21 @@ unfolding usableOf ofBits
 usable-is b =
     let e : b % 2 ^ 31 ≡ b % 2 ^ 31 / 2 ^ 23 * 2 ^ 23 + b % 2 ^ 23 = omega arith in
     ap (λ (r : ℕ). leb r 0x4480_0000) e ∙ sym (fields (leb (2 ^ 31) b) (b % 2 ^ 31 / 2 ^ 23) (b % 2 ^ 23) (omega arith) (omega arith))
+
+-- ---- the same as a bound
+
+sized-is : (k : ℕ) (x : Float) → atMost k x ≡ true → Sized x k
+sized-is k nan h = absurd (true≢false (sym h))
+sized-is k (inf s) h = absurd (true≢false (sym h))
+sized-is k (fin s m e) h = record { magnitude = leb-true (m * up e) (k * down e) h }
+
+is-sized : (k : ℕ) (x : Float) → Sized x k → atMost k x ≡ true
+is-sized k nan h = absurd (h .magnitude)
+is-sized k (inf s) h = absurd (h .magnitude)
+is-sized k (fin s m e) h = le-leb (m * up e) (k * down e) (h .magnitude)
+
+pub usable-sized : (b : ℕ) → usableOf b ≡ true → Sized (ofBits binary32 b) 1024
+usable-sized b h = sized-is 1024 (ofBits binary32 b) (sym (usable-is b) ∙ h)
+
+pub sized-usable : (x : Float) → T (fits binary32 x) → Sized x 1024 → usableOf (toBits binary32 x) ≡ true
+sized-usable x f h = usable-is (toBits binary32 x) ∙ ap (atMost 1024) (ofBits-toBits binary32 x f) ∙ is-sized 1024 x h
