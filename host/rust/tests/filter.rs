@@ -510,6 +510,14 @@ fn points_are_those_of_the_vectors() {
     }
 }
 
+/// An empty filter is fed 0, whatever the sign of the sum.
+#[test]
+fn the_summer_rests() {
+    for sum in [0.0, -0.0] {
+        assert_eq!(summer(&bundle(), curves(), 0, sum).unwrap().value, 0.0);
+    }
+}
+
 /// What a point refuses that the vectors do not reach: lengths, an invalid state, an entry, a sample that leaves the domain.
 #[test]
 fn points_refuse_by_the_table() {
