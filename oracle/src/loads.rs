@@ -65,8 +65,7 @@ fn at_rest(mut bundle: Vec<u8>) -> Tally {
     let (mut filter, mut ruled) = (Filter::new(), Ruled::new());
     let rest = filter_mode_quiescent_level();
     let (lower, upper, _) = AnalogueTransferSurface::load_position(2.0).parts();
-    let told = |filter: &mut Filter| filter.summer(0.0);
-    let (column, fraction) = ruled.told(told);
+    let (column, fraction) = ruled.told(|filter| filter.summer(0.0));
     for _ in 0..3000 {
         for index in [lower, upper].map(|base| base + column as usize).into_iter().flat_map(|left| [left, left + 1]) {
             put(&mut bundle, index, entry(&mut random));

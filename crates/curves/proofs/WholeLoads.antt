@@ -39,11 +39,11 @@ abbrev pub wholeLoad : ℕ → Float
 wholeLoad g = ofInt binary32 (pos g)
 
 -- Load g is row 16 g, with no fraction, and row 16 g + 1 the upper one; after the last row that is the last row again.
-abbrev rowsOf : ℕ → AnalogueLoadPosition → Bool
-rowsOf g load = eqb (load .«lower_base») (16 * g * rowEntries) && eqb (load .«upper_base») (min (16 * g + 1) lastLoad * rowEntries)
+abbrev hasRows : ℕ → AnalogueLoadPosition → Bool
+hasRows g load = eqb (load .«lower_base») (16 * g * rowEntries) && eqb (load .«upper_base») (min (16 * g + 1) lastLoad * rowEntries)
 
 abbrev onRow : ℕ → Bool
-onRow g = let load = loadPositionOf (wholeLoad g) in rowsOf g load && eq (load .fraction) (f32 0)
+onRow g = let load = loadPositionOf (wholeLoad g) in hasRows g load && eq (load .fraction) (f32 0)
 
 -- the one check of all ten, computed
 pub on-rows : every onRow 10 ≡ true
@@ -53,7 +53,7 @@ on-rows = refl
 no-fraction : (g : ℕ) → g ≤ 9 → Zero (loadPositionOf (wholeLoad g) .fraction)
 no-fraction g h =
     let load = loadPositionOf (wholeLoad g) in
-    equal-zero binary32 (load .fraction) (both (rowsOf g load) (eq (load .fraction) (f32 0)) (every-true onRow 10 on-rows g (omega arith)) .1)
+    equal-zero binary32 (load .fraction) (both (hasRows g load) (eq (load .fraction) (f32 0)) (every-true onRow 10 on-rows g (omega arith)) .1)
 
 -- ---- the unscaled curve built at a conductance, by itself in a buffer
 

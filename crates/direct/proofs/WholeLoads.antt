@@ -1,12 +1,12 @@
 -- Whole loads and the summer at rest, of the direct calls: on an accepted bundle with the curves built from it they are answered, and agree. Assumes nothing.
 use Prim.Native.Nat.{ℕ, _≤_}
 use mathlib.Core.Path.{_≡_, refl}
-use mathlib.Core.Bool.{true}
+use mathlib.Core.Bool.{true, not}
 use mathlib.Core.List.{List}
 use native.Mathlib.Omega.{arith}
 use borrow.Author.Tests.{eq-eqb, le-leb}
-use lib.Dec.{lit≤}
-use lib.Ieee.{Float, binary32, eq, ofBits, ofInt, div}
+use lib.Dec.{T, lit≤}
+use lib.Ieee.{Float, binary32, isNan, eq, ofBits, ofInt, div}
 use lib.Ieee.Scale.{finite}
 use Rattle.answers.specs.declared.Answer.the-variants.{Done}
 use Rattle.floats.specs.Arithmetic.{f32}
@@ -49,26 +49,27 @@ module _ (bundle : List ℕ) (a : Accepted bundle) where
   pub built-long : judgeLengthOf (buildCurvesOf bundle) ≡ Done
   built-long = rw (eq-eqb _ _ (length-curves bundle)) refl
 
-  -- ---- loads 0 to 6, which the built curves have, and every finite input
+  -- ---- every finite input: at the ten loads, and at 0 to 6, which the built curves have
 
-  module _ (g : ℕ) (h : g ≤ 6) (input : Float) (known : finite input ≡ true) where
-    sampled-value : sampleCallOf bundle (wholeLoad g) input ≡ record { answer = Done; value = sampleOf bundle (wholeLoad g) input }
+  module _ (input : Float) (known : finite input ≡ true) where
+    number : T (not (isNan input))
+    number = finite-number input known .real
+
+    pub sampled-value : (g : ℕ) → g ≤ 9 → sampleCallOf bundle (wholeLoad g) input ≡ record { answer = Done; value = sampleOf bundle (wholeLoad g) input }
     unfolding sampleCallOf
-    sampled-value =
+    sampled-value g h =
         let load : finite (wholeLoad g) ≡ true = sized-finite (ofInt-sized binary32 h (lit≤ tt)) in
-        let value = sized-finite (sample-sized bundle a g (omega arith) input (finite-number input known .real)) in
-        rw (bundle-checked, load, known, sample-accepted bundle a (wholeLoad g) input, value) refl
+        rw (bundle-checked, load, known, sample-accepted bundle a (wholeLoad g) input, sized-finite (sample-sized bundle a g h input number)) refl
 
-    read-point : sampleCurveCallOf (buildCurvesOf bundle) g input ≡ record { answer = Done; point = curvePointOf (buildCurvesOf bundle) g input }
+    read-point : (g : ℕ) → g ≤ 6 → sampleCurveCallOf (buildCurvesOf bundle) g input ≡ record { answer = Done; point = curvePointOf (buildCurvesOf bundle) g input }
     unfolding sampleCurveCallOf sampleCurveAnswerOf curvePointOf
-    read-point =
-        let number = finite-number input known .real in
+    read-point g h =
         let value = sized-finite (same-sized (same-sym (built-same bundle a g h input number)) (sample-sized bundle a g (omega arith) input number)) in
         rw (built-long, le-leb g 30 (omega arith), known, read-accepted bundle a g h input, value) refl
 
-    pub calls-agree : Agree (sampleCallOf bundle (wholeLoad g) input) (sampleCurveCallOf (buildCurvesOf bundle) g input)
+    pub calls-agree : (g : ℕ) → g ≤ 6 → Agree (sampleCallOf bundle (wholeLoad g) input) (sampleCurveCallOf (buildCurvesOf bundle) g input)
     unfolding curvePointOf
-    calls-agree = rw (sampled-value, read-point) (record { sampled-done = refl; read-done = refl; equal = built-agrees bundle a g h input (finite-number input known .real) })
+    calls-agree g h = rw (sampled-value g (omega arith), read-point g h) (record { sampled-done = refl; read-done = refl; equal = built-agrees bundle a g h input number })
 
   -- ---- no input routed, in every mode, and a sum of 0 of either sign
 

@@ -61,6 +61,7 @@ fn summer_at_rest(r: &[u8], bundle: &[u8], curves: &[u8]) -> bool {
         & (wire::float_bits(point.fraction) == wire::u32_at(r, 48))
 }
 
+// On the bundle with a record's entries, opened and built anew.
 fn agrees(kind: Kind, r: &[u8], bundle: &mut [u8; 6127736], curves: &mut [u8; 254076]) -> bool {
     put_entries(bundle, r);
     let opened = sid_filter::sid_filter_open(bundle).number;
