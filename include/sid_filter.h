@@ -155,8 +155,9 @@ typedef struct {
 sid_filter_point sid_filter_sample_curve(const uint8_t *curves, size_t curves_len, uint32_t curve, float input);
 
 /* The summer of a routing nibble, for the sum of the levels that are routed into the filter. With none routed and a sum of 0 its value is
- * 0, on every bundle that opens with its own curves. Refused: the bundle's length (1) and header (2, place), the curve buffer's length
- * (4), a routing above 15 (10), a sum that is not finite (5), an unusable entry (3, buffer, place), a value that is not finite (6). */
+ * 0, on every bundle that opens, with the curves built from it. Refused: the bundle's length (1) and header (2, place), the curve
+ * buffer's length (4), a routing above 15 (10), a sum that is not finite (5), an unusable entry (3, buffer, place), a value that is not
+ * finite (6). */
 sid_filter_point sid_filter_summer(const uint8_t *bundle, size_t bundle_len, const uint8_t *curves, size_t curves_len, uint8_t routing,
     float sum);
 

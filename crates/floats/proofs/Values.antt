@@ -7,7 +7,7 @@ use Prim.Native.Nat.{ℕ, zero, suc, _+_, _-_, _*_, _^_, _<_, zero-le}
 use native.Mathlib.Nat.{zero-mul, mul-zero, mul-pos, mul-comm, mul-assoc, mul-right-comm, zero-lt-suc}
 use native.Mathlib.Omega.{arith}
 use borrow.Author.Tests.{lt-ltb, le-ltb, eqb-true}
-use lib.IntN.{ℤ}
+use lib.IntN.{ℤ, pos}
 use lib.Dec.{T, ltb}
 use lib.Ieee.{Float, nan, inf, fin, Format, binary32, binary64, low, up, down, unlike, neg, round, sum, add, sub, mul, eq, fits, isNan, ofBits, toBits}
 use lib.Ieee.Bits.{ofBits-toBits}
@@ -23,15 +23,17 @@ use Rattle.floats.proofs.Sized.{Sized, sized-finite, between}
 
 -- ---- zeros, and the same value
 
--- No digits.
-abbrev pub Naught : Float → Type 0
-Naught nan = ⊥
-Naught (inf s) = ⊥
-Naught (fin s m e) = m ≡ 0
-
 -- 0.0 or -0.0
 pub record Zero (x : Float) : Type 0 where
-  pub naught : Naught x
+  pub sign : Bool
+  pub power : ℤ
+  pub is : x ≡ fin sign 0 power
+
+zero-digits : (s : Bool) (m : ℕ) (e : ℤ) → m ≡ 0 → Zero (fin s m e)
+zero-digits s m e h = record { sign = s; power = e; is = ap (λ (k : ℕ). fin s k e) h }
+
+zero-at : (s : Bool) (e : ℤ) → Zero (fin s 0 e)
+zero-at s e = zero-digits s 0 e refl
 
 abbrev pub Same : Float → Float → Type 0
 Same x y = (x ≡ y) ⊎ (Zero x × Zero y)
@@ -53,9 +55,7 @@ same-other other (inr z) = absurd (other (z .1))
 
 -- a bound is the value's, and a zero has every bound
 zero-sized : (x : Float) (k : ℕ) → Zero x → Sized x k
-zero-sized nan k z = absurd (z .naught)
-zero-sized (inf s) k z = absurd (z .naught)
-zero-sized (fin s m e) k z = record { magnitude = rw (z .naught, zero-mul (up e)) zero-le }
+zero-sized x k z = rw (z .is) (record { magnitude = rw (zero-mul (up (z .power))) zero-le })
 
 pub same-sized : {x y : Float} {k : ℕ} → Same x y → Sized y k → Sized x k
 same-sized {k} (inl e) h = subst (λ (x : Float). Sized x k) (sym e) h
@@ -76,11 +76,8 @@ equals-itself x number = go (eq x x) refl
 
 zeros-equal : (x y : Float) → Zero x → Zero y → eq x y ≡ true
 unfolding eq
-zeros-equal nan y z w = absurd (z .naught)
-zeros-equal (inf s) y z w = absurd (z .naught)
-zeros-equal (fin s m e) nan z w = absurd (w .naught)
-zeros-equal (fin s m e) (inf t) z w = absurd (w .naught)
-zeros-equal (fin s m e) (fin t n d) z w = rw (z .naught, w .naught, zero-mul (up e), zero-mul (up d), zero-mul (down d), zero-mul (down e)) (last (Bool·beq s t))
+zeros-equal x y z w =
+    rw (z .is, w .is, zero-mul (up (z .power)), zero-mul (up (w .power)), zero-mul (down (w .power)), zero-mul (down (z .power))) (last (Bool·beq (z .sign) (w .sign)))
   where
     last : (b : Bool) → (b || true) ≡ true
     last true = refl
@@ -97,7 +94,7 @@ zero-bits binary32 = refl
 zero-bits binary64 = refl
 
 pub zero-equal : (f : Format) (x : Float) → Zero x → eq x (ofBits f 0) ≡ true
-zero-equal f x z = rw (zero-bits f) (zeros-equal x zeroF z (record { naught = refl }))
+zero-equal f x z = rw (zero-bits f) (zeros-equal x zeroF z (zero-at false (pos 0)))
 
 pub equal-zero : (f : Format) (x : Float) → eq x (ofBits f 0) ≡ true → Zero x
 unfolding eq
@@ -106,12 +103,12 @@ equal-zero f x h = go x (rw (zero-bits f) at h)
     go : (x : Float) → eq x zeroF ≡ true → Zero x
     go nan h = absurd (true≢false (sym h))
     go (inf s) h = absurd (true≢false (sym h))
-    go (fin s m e) h = record { naught = no-factor m (up e) (up-pos e) (omega (arith, eqb-true (m * up e * 1) (0 * down e) (both _ _ h .0))) }
+    go (fin s m e) h = zero-digits s m e (no-factor m (up e) (up-pos e) (omega (arith, eqb-true (m * up e * 1) (0 * down e) (both _ _ h .0))))
 
 -- ---- a rounded zero
 
-none : (m u d : ℕ) → m ≡ 0 → m * u * d ≡ 0
-none m u d z = ap (λ (k : ℕ). k * u * d) z ∙ ap (λ (k : ℕ). k * d) (zero-mul u) ∙ zero-mul d
+none : (u d : ℕ) → 0 * u * d ≡ 0
+none u d = ap (λ (k : ℕ). k * d) (zero-mul u) ∙ zero-mul d
 
 some : (m : ℕ) (e d : ℤ) → 0 < suc m * up e * down d
 some m e d = mul-pos (mul-pos {m = suc m} {n = up e} (zero-lt-suc m) (up-pos e)) (down-pos d)
@@ -119,7 +116,7 @@ some m e d = mul-pos (mul-pos {m = suc m} {n = up e} (zero-lt-suc m) (up-pos e))
 zero-of-value : (x : Float) (s : Bool) (c : ℕ) → 0 < c → HasValue x s 0 c → Zero x
 zero-of-value nan s c C v = absurd v
 zero-of-value (inf t) s c C v = absurd v
-zero-of-value (fin t m e) s c C v = record { naught = no-factor m (up e) (up-pos e) (no-factor (m * up e) c C (v .1 ∙ zero-mul (down e))) }
+zero-of-value (fin t m e) s c C v = zero-digits t m e (no-factor m (up e) (up-pos e) (no-factor (m * up e) c C (v .1 ∙ zero-mul (down e))))
 
 rounds-to-zero : (f : Format) (s : Bool) (a c : ℕ) → 0 < c → a ≡ 0 → Zero (round f s a c)
 rounds-to-zero f s a c C h = zero-of-value (round f s a c) s c C (round-zero f s a c C h)
@@ -143,19 +140,15 @@ sum-opposite f false a c C = cond-zero (ltb a a) (rounds-to-zero f true (a - a) 
 
 add-zeros : (f : Format) (x y : Float) → Zero x → Zero y → Zero (add f x y)
 unfolding add
-add-zeros f nan y z w = absurd (z .naught)
-add-zeros f (inf s) y z w = absurd (z .naught)
-add-zeros f (fin s m e) nan z w = absurd (w .naught)
-add-zeros f (fin s m e) (inf t) z w = absurd (w .naught)
-add-zeros f (fin s m e) (fin t n d) z w =
-    sum-zeros f s t (m * up e * down d) (n * up d * down e) (down e * down d) (mul-pos (down-pos e) (down-pos d))
-    (none m (up e) (down d) (z .naught)) (none n (up d) (down e) (w .naught))
+add-zeros f x y z w =
+    let e = z .power in
+    let d = w .power in
+    rw (z .is, w .is)
+    (sum-zeros f (z .sign) (w .sign) (0 * up e * down d) (0 * up d * down e) (down e * down d) (mul-pos (down-pos e) (down-pos d)) (none (up e) (down d)) (none (up d) (down e)))
 
 neg-zero : (x : Float) → Zero x → Zero (neg x)
 unfolding neg
-neg-zero nan z = z
-neg-zero (inf s) z = absurd (z .naught)
-neg-zero (fin s m e) z = record { naught = z .naught }
+neg-zero x z = rw (z .is) (zero-at (not (z .sign)) (z .power))
 
 -- a finite number less itself, and less one of the same value
 itself-less : (f : Format) (x : Float) → finite x ≡ true → Zero (sub f x x)
@@ -175,20 +168,19 @@ mul-zero-right : (f : Format) (x z : Float) → finite x ≡ true → Zero z →
 unfolding mul
 mul-zero-right f nan z h w = absurd (true≢false (sym h))
 mul-zero-right f (inf s) z h w = absurd (true≢false (sym h))
-mul-zero-right f (fin s m e) nan h w = absurd (w .naught)
-mul-zero-right f (fin s m e) (inf t) h w = absurd (w .naught)
-mul-zero-right f (fin s m e) (fin t n d) h w =
-    rounds-to-zero f (unlike s t) (m * up e * (n * up d)) (down e * down d) (mul-pos (down-pos e) (down-pos d))
-    (ap (λ (k : ℕ). m * up e * (k * up d)) (w .naught) ∙ ap (λ (k : ℕ). m * up e * k) (zero-mul (up d)) ∙ mul-zero (m * up e))
+mul-zero-right f (fin s m e) z h w =
+    let d = w .power in
+    rw (w .is)
+    (rounds-to-zero f (unlike s (w .sign)) (m * up e * (0 * up d)) (down e * down d) (mul-pos (down-pos e) (down-pos d))
+    (ap (λ (k : ℕ). m * up e * k) (zero-mul (up d)) ∙ mul-zero (m * up e)))
 
 mul-zero-left : (f : Format) (z y : Float) → Zero z → finite y ≡ true → Zero (mul f z y)
 unfolding mul
-mul-zero-left f nan y w h = absurd (w .naught)
-mul-zero-left f (inf s) y w h = absurd (w .naught)
-mul-zero-left f (fin s m e) nan w h = absurd (true≢false (sym h))
-mul-zero-left f (fin s m e) (inf t) w h = absurd (true≢false (sym h))
-mul-zero-left f (fin s m e) (fin t n d) w h =
-    rounds-to-zero f (unlike s t) (m * up e * (n * up d)) (down e * down d) (mul-pos (down-pos e) (down-pos d)) (none m (up e) (n * up d) (w .naught))
+mul-zero-left f z nan w h = absurd (true≢false (sym h))
+mul-zero-left f z (inf t) w h = absurd (true≢false (sym h))
+mul-zero-left f z (fin t n d) w h =
+    let e = w .power in
+    rw (w .is) (rounds-to-zero f (unlike (w .sign) t) (0 * up e * (n * up d)) (down e * down d) (mul-pos (down-pos e) (down-pos d)) (none (up e) (n * up d)))
 
 -- ---- a sum with a zero
 
@@ -235,28 +227,28 @@ sum-left f false false a b c h B = let q : a + b ≡ b = omega arith in rw q ref
 
 add-zero-right : (f : Format) (x z : Float) → T (fits f x) → Zero z → Same (add f x z) x
 unfolding add
-add-zero-right f x nan h w = absurd (w .naught)
-add-zero-right f x (inf t) h w = absurd (w .naught)
-add-zero-right f nan (fin t n d) h w = inl refl
-add-zero-right f (inf s) (fin t n d) h w = inl refl
-add-zero-right f (fin s zero e) (fin t n d) h w = inr (add-zeros f (fin s zero e) (fin t n d) (record { naught = refl }) w, record { naught = refl })
-add-zero-right f (fin s (suc m) e) (fin t n d) h w =
-    inl
-    (sum-right f s t (suc m * up e * down d) (n * up d * down e) (down e * down d) (some m e d) (none n (up d) (down e) (w .naught))
-    ∙ widened f s m e (down d) (down-pos d) h)
+add-zero-right f nan z h w = inl refl
+add-zero-right f (inf s) z h w = rw (w .is) (inl refl)
+add-zero-right f (fin s zero e) z h w = inr (add-zeros f (fin s zero e) z (zero-at s e) w, zero-at s e)
+add-zero-right f (fin s (suc m) e) z h w =
+    let d = w .power in
+    rw (w .is)
+    (inl
+    (sum-right f s (w .sign) (suc m * up e * down d) (0 * up d * down e) (down e * down d) (some m e d) (none (up d) (down e))
+    ∙ widened f s m e (down d) (down-pos d) h))
 
 pub add-zero-left : (f : Format) (z x : Float) → Zero z → T (fits f x) → Same (add f z x) x
 unfolding add
-add-zero-left f nan x w h = absurd (w .naught)
-add-zero-left f (inf t) x w h = absurd (w .naught)
-add-zero-left f (fin t n d) nan w h = inl refl
-add-zero-left f (fin t n d) (inf s) w h = inl refl
-add-zero-left f (fin t n d) (fin s zero e) w h = inr (add-zeros f (fin t n d) (fin s zero e) w (record { naught = refl }), record { naught = refl })
-add-zero-left f (fin t n d) (fin s (suc m) e) w h =
-    inl
-    (sum-left f t s (n * up d * down e) (suc m * up e * down d) (down d * down e) (none n (up d) (down e) (w .naught)) (some m e d)
+add-zero-left f z nan w h = rw (w .is) (inl refl)
+add-zero-left f z (inf s) w h = rw (w .is) (inl refl)
+add-zero-left f z (fin s zero e) w h = inr (add-zeros f z (fin s zero e) w (zero-at s e), zero-at s e)
+add-zero-left f z (fin s (suc m) e) w h =
+    let d = w .power in
+    rw (w .is)
+    (inl
+    (sum-left f (w .sign) s (0 * up d * down e) (suc m * up e * down d) (down d * down e) (none (up d) (down e)) (some m e d)
     ∙ ap (λ (k : ℕ). round f s (suc m * up e * down d) k) (mul-comm (down d) (down e))
-    ∙ widened f s m e (down d) (down-pos d) h)
+    ∙ widened f s m e (down d) (down-pos d) h))
 
 -- ---- equal values give equal values
 

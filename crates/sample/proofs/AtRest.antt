@@ -1,10 +1,9 @@
 -- THE SUMMER AT REST. On every accepted bundle with the curves built from it: with no input routed, in every mode, the summer makes 0 of a sum of 0, of either sign.
 -- The two inputs that are always there make the count 2, so it reads the curve of load 2 where the surface is sampled for its rest. It takes no energy. Assumes nothing.
 use Prim.Native.Nat.{ℕ}
-use mathlib.Core.Path.{_≡_, refl}
-use mathlib.Core.Bool.{true, not}
+use mathlib.Core.Path.{_≡_, refl, sym}
+use mathlib.Core.Bool.{true, not, true≢false}
 use mathlib.Core.List.{List}
-use native.Mathlib.Omega.{arith}
 use lib.Dec.{T, lit≤}
 use lib.Ieee.{Float, binary32, isNan, ofBits, ofInt, lt, eq, sub, mul, div}
 use lib.Ieee.Bits.{ofBits-fits}
@@ -33,8 +32,8 @@ unfolding reciprocalOf ofBits ofInt mul div
 one-of-two = refl
 
 two-other : Zero (f32 0x3f40_b8f1) → ⊥
-unfolding ofBits
-two-other z = omega (arith, z .naught)
+unfolding ofBits eq
+two-other z = true≢false (sym (zero-equal binary32 _ z))
 
 level-number : T (not (isNan filterModeQuiescentLevelOf))
 unfolding ofBits isNan

@@ -10,22 +10,20 @@ enum Kind {
 
 // ---- a record: four entries, each by its byte in the bundle and its word; then what is asked
 
-fn put_entry(bundle: &mut [u8], r: &[u8], at: usize, word: u32) {
-    wire::put_u32(bundle, wire::u32_at(r, at) as usize, word);
-}
-
-fn put_entries(bundle: &mut [u8], r: &[u8]) {
-    put_entry(bundle, r, 0, wire::u32_at(r, 4));
-    put_entry(bundle, r, 8, wire::u32_at(r, 12));
-    put_entry(bundle, r, 16, wire::u32_at(r, 20));
-    put_entry(bundle, r, 24, wire::u32_at(r, 28));
-}
-
-fn clear_entries(bundle: &mut [u8], r: &[u8]) {
-    put_entry(bundle, r, 0, 0);
-    put_entry(bundle, r, 8, 0);
-    put_entry(bundle, r, 16, 0);
-    put_entry(bundle, r, 24, 0);
+// Puts words where a record has its entries: its own, or from no bytes, which read as 0, zeros.
+fn put_entries(bundle: &mut [u8], r: &[u8], words: &[u8]) {
+    wire::put_u32(bundle, wire::u32_at(r, 0) as usize, wire::u32_at(words, 4));
+    wire::put_u32(bundle, wire::u32_at(r, 8) as usize, wire::u32_at(words, 12));
+    wire::put_u32(
+        bundle,
+        wire::u32_at(r, 16) as usize,
+        wire::u32_at(words, 20),
+    );
+    wire::put_u32(
+        bundle,
+        wire::u32_at(r, 24) as usize,
+        wire::u32_at(words, 28),
+    );
 }
 
 // A load and an input: the surface's bits, then the curve's, equal in value.
@@ -63,7 +61,7 @@ fn summer_at_rest(r: &[u8], bundle: &[u8], curves: &[u8]) -> bool {
 
 // On the bundle with a record's entries, opened and built anew.
 fn agrees(kind: Kind, r: &[u8], bundle: &mut [u8; 6127736], curves: &mut [u8; 254076]) -> bool {
-    put_entries(bundle, r);
+    put_entries(bundle, r, r);
     let opened = sid_filter::sid_filter_open(bundle).number;
     let built = sid_filter::sid_filter_build_curves(bundle, curves).number;
     let agree = match kind {
@@ -71,7 +69,7 @@ fn agrees(kind: Kind, r: &[u8], bundle: &mut [u8; 6127736], curves: &mut [u8; 25
         Kind::ZeroSigns => zero_signs(r, bundle, curves),
         Kind::SummerAtRest => summer_at_rest(r, bundle, curves),
     };
-    clear_entries(bundle, r);
+    put_entries(bundle, r, &r[0..0]);
     (opened == 0) & (built == 0) & agree
 }
 

@@ -35,8 +35,8 @@ pub fn sample_curve(curves: &Curves, curve: u32, input: f32) -> Result<Point, Re
 }
 
 /// The summer of a routing nibble, for the sum of the inputs that are routed into the filter. With none routed and a sum of 0 its value
-/// is 0, on every bundle with its own curves. Refused are curves of another length (4), a routing above 15 (10), a sum that is not finite
-/// (5), and an entry (3).
+/// is 0, on every bundle, with the curves built from it. Refused are curves of another length (4), a routing above 15 (10), a sum that is
+/// not finite (5), and an entry (3).
 pub fn summer(bundle: &Bundle, curves: &Curves, routing: u8, input_sum: f32) -> Result<Point, Refusal> {
     Point::of(library::summer(bundle.as_bytes(), curves.as_bytes(), routing, input_sum))
 }
