@@ -1,8 +1,8 @@
 /* The filter of the MOS 6581: bytes in, bytes out. Numbers in the bytes are little-endian, and an f32 is its IEEE 754 bits. In the
  * repository docs/FORMATS.md has every buffer byte by byte, docs/ENGINE.md what an engine asks.
  *
- * A buffer is a pointer and its length in bytes; it needs no alignment. Building writes `curves`; a run writes `state` and `output`. All
- * else is only read. A written buffer must not overlap another one, and while a call runs nothing else may write what is lent to it.
+ * A buffer is a pointer and its length in bytes; it needs no alignment. Building writes `curves`; a run writes `state` and `output`;
+ * collecting writes `sums`. All else is only read. A written buffer must not overlap another one, and while a call runs nothing else may write what is lent to it.
  * Every call answers by value. None keeps a pointer, allocates, locks or has static data. The thread's float mode must be the usual one:
  * round to nearest even, no flush to zero. */
 #ifndef SID_FILTER_H
@@ -16,7 +16,7 @@ extern "C" {
 #endif
 
 /* The version of this library; CHANGELOG.md says what each one changed. */
-#define SID_FILTER_VERSION "0.5.1"
+#define SID_FILTER_VERSION "0.6.0"
 
 /* Units.
  *
@@ -31,7 +31,8 @@ extern "C" {
  * envelope, so it does not rise.
  *
  * input_sum is the sum of the levels of what is routed into the filter, by bits 0 to 3 of register 23: a voice that is silent still adds
- * its rest. source_energy is the sum of (level - rest) squared over the same inputs. With nothing routed both are 0.
+ * its rest. source_energy is the sum of (level - rest) squared over the same inputs. With nothing routed both are 0. sid_filter_collect
+ * works both out from the voices, to the emulator's last bit; the formula above rounds otherwise.
  *
  * high, band and low are the filter's outputs. selected adds those that the mode selects, band with its sign turned, times the mode's
  * gain, each about SID_FILTER_MODE_REST. With nothing routed the three rest at 0, and selected at 0.3764 a selected mode bit: 0 in mode 0.
@@ -78,10 +79,14 @@ enum {
     SID_FILTER_OUTPUT_LENGTH = 8,
     /* 9 is unused, and stays so. */
     /* The state block is invalid, an index is past its table, or a direct argument is not finite. */
-    SID_FILTER_ARGUMENT = 10
+    SID_FILTER_ARGUMENT = 10,
+    /* The voices or the numbers beside them have a wrong length, a number of them is not finite, a flag is above 1, a voice's last byte is
+     * not zero, or a selection is above 15. */
+    SID_FILTER_SOURCES = 11
 };
 
-/* The lengths in bytes of a bundle, of a curve buffer, of a state block and of a script's header, event and sample; the most events. */
+/* The lengths in bytes of a bundle, of a curve buffer, of a state block and of a script's header, event and sample; the most events; the
+ * lengths of a voice, of the numbers beside three voices and of their sums. */
 #define SID_FILTER_BUNDLE_BYTES 6127736
 #define SID_FILTER_CURVES_BYTES 254076
 #define SID_FILTER_STATE_BYTES 24
@@ -89,6 +94,9 @@ enum {
 #define SID_FILTER_EVENT_BYTES 12
 #define SID_FILTER_SAMPLE_BYTES 16
 #define SID_FILTER_EVENTS_MAX 65536
+#define SID_FILTER_VOICE_BYTES 12
+#define SID_FILTER_NUMBERS_BYTES 24
+#define SID_FILTER_SUMS_BYTES 32
 
 /* The kinds of an event. An event has a kind (byte 0), a value (byte 1), two zero bytes, an input sum (f32, byte 4) and a source energy
  * (f32, byte 8). Kinds 0 to 3 use the value, which is what is written to the register; a sample uses the two floats; what a kind does not
@@ -133,6 +141,27 @@ sid_filter_answer sid_filter_build_curves(const uint8_t *bundle, size_t bundle_l
  * on from the state that the last one left. */
 sid_filter_answer sid_filter_run(const uint8_t *bundle, size_t bundle_len, const uint8_t *curves, size_t curves_len,
     uint8_t *state, size_t state_len, const uint8_t *script, size_t script_len, uint8_t *output, size_t output_len);
+
+/* Collects what three voices and the external input give the filter and the mixer in one clock, by a routing and a mode nibble: bits 0 to 2
+ * of the routing send voices 1 to 3 into the filter, bit 3 the external input; what is not sent goes beside it, but for voice 3 where bit 3
+ * of the mode turns it off.
+ *
+ *   voices    three of 12 bytes: the levels of the waveform and of the envelope DAC (f32 each); a byte each: the selected waveforms, 0 to 15
+ *             (1 triangle, 2 saw, 4 pulse, 8 noise, and their sums), combined and frozen (0 or 1), zero
+ *   numbers   six f32: the external input's sample, its level at the filter, its level at the mixer; how far each voice's saw is bent at
+ *             the mixer, 0 to 1
+ *   sums      eight f32. Into the filter: input_sum, source_energy, the envelopes. Beside it: the levels, the envelopes; and of the voices
+ *             there that are neither combined nor frozen the envelopes, the attack drives, the envelopes of the pulses (selection 4)
+ *
+ * A voice at envelope 0 adds its rest where it goes, and nothing else.
+ *
+ * Refused, in this order, the sums then as they were:
+ *  10  a nibble above 15; sums not 32 bytes
+ *  11  voices not 36 bytes, numbers not 24; a number not finite, a selection above 15, a flag above 1, a last byte not zero: of every voice
+ *      and every number, also of one that this routing does not read
+ *   6  one of the eight sums would not be finite */
+sid_filter_answer sid_filter_collect(uint8_t routing, uint8_t mode, const uint8_t *voices, size_t voices_len,
+    const uint8_t *numbers, size_t numbers_len, uint8_t *sums, size_t sums_len);
 
 /* Where on a curve an amplifier stands. Its input, 0 to 1, lies between two of the curve's entries:
  *

@@ -9,6 +9,7 @@ include!("sid.rs");
 mod kept;
 mod numbers;
 mod surface;
+mod voices;
 
 use std::cell::RefCell;
 use std::hint::black_box;
@@ -21,6 +22,7 @@ use numbers::Random;
 use response::volume_dac_conductance_code;
 use surface::proved;
 use tables::AnalogueTransferSurface;
+use voices::{voice, Sources, FLAGS};
 
 /// A round is short, so that what else the machine does meets both sides of it.
 const EVENTS: usize = 8_192;
@@ -97,6 +99,47 @@ fn tables(bundle: &[u8]) {
         drop(black_box(surface::curves_on(&surface)));
     };
     row("building, beside a scan and the calls", 1, &mut checked, &mut build);
+}
+
+// ---- voices
+
+/// Three voices at their levels, of any selection, mostly pure, with blends and external levels in their range.
+fn sounding(routing: u8, mode: u8, random: &mut Random) -> Sources {
+    let mut unit = || (random.bits() >> 40) as f32 / 16_777_216.0;
+    let mut voices = [0; 3].map(|_| voice(2.0 * unit() - 1.0, unit(), (16.0 * unit()) as u8, FLAGS[0]));
+    voices[(3.0 * unit()) as usize].combined = unit() < 0.25;
+    Sources { routing, mode, voices, numbers: [0; 6].map(|_| unit()) }
+}
+
+/// The Rust's side of a call on the same bytes: its topology of the nibbles, its voices, its sums.
+#[inline(never)]
+fn collect(routing: u8, mode: u8, voices: &[u8; 36], numbers: &[u8; 24], sums: &mut [u8; 32]) {
+    let float = |bytes: &[u8], at: usize| f32::from_le_bytes(bytes[at..at + 4].try_into().unwrap());
+    let voices =
+        [0, 12, 24].map(|at| voice(float(voices, at), float(voices, at + 4), voices[at + 8], [voices[at + 9] == 1, voices[at + 10] == 1]));
+    let numbers = [0, 4, 8, 12, 16, 20].map(|at| float(numbers, at));
+    let theirs = Sources { routing, mode, voices, numbers }.sums();
+    sums.copy_from_slice(theirs.map(f32::to_le_bytes).as_flattened());
+}
+
+/// A row for calls of one routing and mode on other voices each, after one pass in which both sides gave the same bytes.
+fn collecting(name: &str, routing: u8, mode: u8, random: &mut Random) {
+    let lent: Vec<_> =
+        (0..EVENTS).map(|_| sounding(routing, mode, random)).map(|sources| (sources.voice_bytes(), sources.number_bytes())).collect();
+    let (mut sums, mut beside) = ([0; 32], [0; 32]);
+    for (voices, numbers) in &lent {
+        assert_eq!(proved::collect(routing, mode, voices, numbers, &mut sums).number, 0);
+        collect(routing, mode, voices, numbers, &mut beside);
+        assert_eq!(sums, beside, "{name}: the two differ");
+    }
+    let mut rust =
+        || lent.iter().for_each(|(voices, numbers)| collect(routing, mode, black_box(voices), black_box(numbers), black_box(&mut beside)));
+    let mut library = || {
+        for (voices, numbers) in &lent {
+            _ = black_box(proved::collect(routing, mode, black_box(voices), black_box(numbers), black_box(&mut sums)));
+        }
+    };
+    row(name, EVENTS, &mut rust, &mut library);
 }
 
 // ---- runs
@@ -233,5 +276,8 @@ fn main() {
     run("samples, nothing routed any more", lent, &mut filter, &ringing, &quiet);
     let short = scripts(16, |number| noise(number, number as u64 * 0x9e37_79b9_7f4a_7c15));
     run("scripts of 16 samples", lent, &mut filter, &full, &short);
+    collecting("collecting, three voices filtered", 7, 1, &mut random);
+    collecting("collecting, one voice beside", 3, 1, &mut random);
+    collecting("collecting, all beside", 0, 0, &mut random);
     tables(&bundle);
 }

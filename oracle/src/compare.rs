@@ -6,6 +6,7 @@
 include!("sid.rs");
 
 mod circuit;
+mod collecting;
 mod core;
 mod direct;
 mod events;
@@ -20,6 +21,7 @@ mod run;
 mod sample;
 mod state;
 mod surface;
+mod voices;
 
 fn main() {
     let mut subjects = circuit::compare();
@@ -29,6 +31,7 @@ fn main() {
     subjects.extend(direct::compare());
     subjects.extend(points::compare());
     subjects.extend(loads::compare());
+    subjects.extend(collecting::compare());
     subjects.extend(core::compare());
     subjects.extend(run::compare());
     subjects.extend(events::compare());

@@ -9,6 +9,7 @@ mod kept;
 mod line;
 mod ruler;
 mod song;
+mod voices;
 
 use constants::*;
 use filter::Filter;
@@ -18,6 +19,7 @@ use mixing::MixingTopology;
 use response::*;
 use ruler::{rulers, told, Ruled};
 use tables::*;
+use voices::{not_finite_alone, voice, Sources, ENVELOPES, FLAGS, WAVEFORMS};
 
 fn main() {
     let coefficients = build_filter_coefficients();
@@ -67,6 +69,8 @@ fn main() {
     save("whole_loads", whole_loads);
     save("zero_signs", zero_signs);
     save("summer_at_rest", summer_at_rest(bundle[8], &mut ruled));
+    save("collect", collected());
+    save("collect_refused", refused_collects());
     for (name, bytes) in song::files(&mut filter) {
         write_bytes(name, &bytes);
     }
@@ -399,7 +403,7 @@ fn constants(coefficients: &FilterCoefficients) -> Vec<[u32; 5]> {
 /// its row names.
 fn answers() -> Vec<[u32; 9]> {
     let mut random = Random::of("answers");
-    let numbers = || (0..=10).filter(|&number| number != 9);
+    let numbers = || (0..=11).filter(|&number| number != 9);
     let mut pairs = vec![];
     for first in numbers() {
         for second in numbers() {
@@ -1253,4 +1257,89 @@ fn sums() {
     println!("an empty sum of f32 is {:?}, the sum of [-0.0] is {:?}", none.iter().sum::<f32>(), one.iter().sum::<f32>());
     let (none, one): ([f64; 0], [f64; 1]) = ([], [-0.0]);
     println!("an empty sum of f64 is {:?}, the sum of [-0.0] is {:?}", none.iter().sum::<f64>(), one.iter().sum::<f64>());
+}
+
+// ---- Voices
+
+/// The words of nibbles, voices and numbers: two, nine and six.
+fn source_words(sources: &Sources) -> [u32; 17] {
+    let bytes = [&sources.voice_bytes()[..], &sources.number_bytes()].concat();
+    let words: Vec<u32> = bytes.chunks_exact(4).map(|word| u32::from_le_bytes(word.try_into().expect("four bytes"))).collect();
+    joined([&[sources.routing.into(), sources.mode.into()], &words])
+}
+
+/// One of a list, or one that a song has.
+fn any_of(random: &mut Random, list: &[f32]) -> f32 {
+    if random.below(2) == 0 {
+        random.pick(list)
+    } else {
+        random.between(-1.0, 1.0)
+    }
+}
+
+fn any_sources(random: &mut Random) -> Sources {
+    let voices = [0; 3].map(|_| {
+        let (selection, flags) = (random.below(16) as u8, FLAGS[random.below(4) as usize]);
+        voice(any_of(random, &WAVEFORMS), any_of(random, &ENVELOPES), selection, flags)
+    });
+    let numbers = [0; 6].map(|_| any_of(random, &[0.0, -0.0, 0.45, 2e19]));
+    Sources { routing: random.below(16) as u8, mode: random.below(16) as u8, voices, numbers }
+}
+
+/// Nibbles, voices and numbers; number of the refusal, 0 or 6, and the eight sums, zeros where one of them is not finite. First the sources by which a sum alone
+/// is not finite; then each routing with voice 3 on and off, each selection with its flags, each envelope and each waveform, the rest at random.
+fn collected() -> Vec<[u32; 26]> {
+    let mut random = Random::of("collect");
+    let mut cases: Vec<Sources> = not_finite_alone().into_iter().map(|(_, sources)| sources).collect();
+    for number in 0..32 * 32 {
+        let mut sources = any_sources(&mut random);
+        (sources.routing, sources.mode) = (number as u8 % 16, number as u8 / 16 % 2 * 8 + sources.mode % 8);
+        let changed = &mut sources.voices[number / 32 % 3];
+        changed.waveform_selection = (number / 32 % 16) as u8;
+        [changed.combined, changed.frozen] = FLAGS[number / 512 * 2 + number % 2];
+        changed.envelope = ENVELOPES[number % ENVELOPES.len()];
+        changed.waveform = WAVEFORMS[number % WAVEFORMS.len()];
+        cases.push(sources);
+    }
+    cases
+        .into_iter()
+        .map(|sources| {
+            let sums = sources.sums();
+            let finite = sums.iter().all(|sum| sum.is_finite());
+            let told = if finite { sums.map(word) } else { [0; 8] };
+            joined([&source_words(&sources), &[if finite { 0 } else { 6 }], &told])
+        })
+        .collect()
+}
+
+/// The same sources with a flaw, and how many bytes of voices, numbers and sums are lent; the number that the table of refusals has for it.
+fn refused_collects() -> Vec<[u32; 21]> {
+    let mut random = Random::of("collect_refused");
+    let mut cases = Vec::new();
+    let mut flawed = |number: u32, lengths: [u32; 3], place: usize, flaw: u32| {
+        let mut words = source_words(&Sources::at_rest(random.below(16) as u8, random.below(16) as u8));
+        words[place] = if flaw == 0 { words[place] } else { flaw };
+        cases.push(joined([&words, &lengths, &[number]]));
+    };
+    const WHOLE: [u32; 3] = [36, 24, 32];
+    for lengths in [[36, 24, 31], [36, 24, 33], [0, 0, 31]] {
+        flawed(10, lengths, 0, 0);
+    }
+    for lengths in [[35, 24, 32], [24, 24, 32], [0, 24, 32], [36, 23, 32], [36, 20, 32], [36, 0, 32]] {
+        flawed(11, lengths, 0, 0);
+    }
+    for (place, flaw) in [(0, 16), (0, 255), (1, 16), (1, 255)] {
+        flawed(10, WHOLE, place, flaw);
+        flawed(10, [35, 24, 32], place, flaw);
+    }
+    for voice in 0..3 {
+        for flaw in [0x10, 0xff, 0x200, 0xff00, 0x02_0000, 0xff_0000, 0x0100_0000, 0xff00_0000] {
+            flawed(11, WHOLE, 4 + 3 * voice, flaw);
+        }
+    }
+    let floats = [2, 3, 5, 6, 8, 9].into_iter().chain(11..17);
+    for (place, flaw) in floats.flat_map(|place| [0x7f80_0000, 0xff80_0000, 0x7fc0_0000, 0xffff_ffff].map(|flaw| (place, flaw))) {
+        flawed(11, WHOLE, place, flaw);
+    }
+    cases
 }

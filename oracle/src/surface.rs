@@ -50,6 +50,16 @@ pub mod proved {
             output: *mut u8,
             output_len: usize,
         ) -> Answer;
+        fn sid_filter_collect(
+            routing: u8,
+            mode: u8,
+            voices: *const u8,
+            voices_len: usize,
+            numbers: *const u8,
+            numbers_len: usize,
+            sums: *mut u8,
+            sums_len: usize,
+        ) -> Answer;
     }
 
     #[link(name = "probe", kind = "static")]
@@ -73,6 +83,11 @@ pub mod proved {
         let (state, state_len) = (state.as_mut_ptr(), state.len());
         let ((script, script_len), (output, output_len)) = ((script.as_ptr(), script.len()), (output.as_mut_ptr(), output.len()));
         unsafe { sid_filter_run(bundle, bundle_len, curves, curves_len, state, state_len, script, script_len, output, output_len) }
+    }
+
+    pub fn collect(routing: u8, mode: u8, voices: &[u8], numbers: &[u8], sums: &mut [u8]) -> Answer {
+        let ((voices, voices_len), (numbers, numbers_len)) = ((voices.as_ptr(), voices.len()), (numbers.as_ptr(), numbers.len()));
+        unsafe { sid_filter_collect(routing, mode, voices, voices_len, numbers, numbers_len, sums.as_mut_ptr(), sums.len()) }
     }
 
     pub fn sample(bundle: &[u8], conductance: f32, input: f32) -> Value {

@@ -2,7 +2,7 @@
 use mathlib.Core.Path.{_≡_, refl, sym, ap}
 use mathlib.Core.Bool.{Bool, true, false, cond}
 use Rattle.answers.specs.declared.Answer.{Answer}
-use Rattle.answers.specs.declared.Answer.the-variants.{Done, BundleLength, Header, Entry, CurvesLength, InputNotFinite, Domain, Script, OutputLength, Argument}
+use Rattle.answers.specs.declared.Answer.the-variants.{Done, BundleLength, Header, Entry, CurvesLength, InputNotFinite, Domain, Script, OutputLength, Argument, Sources}
 use Rattle.answers.specs.Answers.{isDoneOf, firstOf, unlessOf}
 
 -- Only `Done` is done.
@@ -17,6 +17,7 @@ done-is Domain h = cc
 done-is Script h = cc
 done-is OutputLength h = cc
 done-is Argument h = cc
+done-is Sources h = cc
 
 -- The first of two is done where both are.
 pub first-done : (a b : Answer) → firstOf a b ≡ Done → (a ≡ Done) × (b ≡ Done)

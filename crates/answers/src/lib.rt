@@ -29,6 +29,9 @@ pub enum Answer {
     OutputLength,
     // The state block is invalid, an index is past its table, or a direct argument is not finite. Everything is left as it was.
     Argument,
+    // The voices or the numbers lent beside them have a wrong length, a number that is not finite, a flag above 1, a last byte that is not zero or a selection
+    // above 15. Everything is left as it was.
+    Sources,
 }
 
 // An answer by its number: 0 is done, and a buffer or a place that the table of refusals does not name is 0.
@@ -56,6 +59,7 @@ fn number(a: Answer) -> u32
         Answer::Script => 7,
         Answer::OutputLength => 8,
         Answer::Argument => 10,
+        Answer::Sources => 11,
     }
 }
 
@@ -82,6 +86,7 @@ fn buffer_of(a: Answer) -> u32
         Answer::Script => 0,
         Answer::OutputLength => 0,
         Answer::Argument => 0,
+        Answer::Sources => 0,
     }
 }
 
@@ -99,6 +104,7 @@ fn place_of(a: Answer) -> u32
         Answer::Script => 0,
         Answer::OutputLength => 0,
         Answer::Argument => 0,
+        Answer::Sources => 0,
     }
 }
 

@@ -55,6 +55,11 @@ fn push_words(out: &mut [u8], at: usize, answer: Answer) -> usize
             b"the output is shorter than 16 bytes a sample event",
         ),
         Answer::Argument => push(out, at, b"the state block is invalid"),
+        Answer::Sources => push(
+            out,
+            at,
+            b"a voice, or a number lent beside the voices, is invalid",
+        ),
     }
 }
 

@@ -6,3 +6,4 @@ pub mod Rounding
 pub mod Sized
 pub mod Numbers
 pub mod Values
+pub mod Signs

@@ -146,7 +146,7 @@ add-zeros f x y z w =
     rw (z .is, w .is)
     (sum-zeros f (z .sign) (w .sign) (0 * up e * down d) (0 * up d * down e) (down e * down d) (mul-pos (down-pos e) (down-pos d)) (none (up e) (down d)) (none (up d) (down e)))
 
-neg-zero : (x : Float) → Zero x → Zero (neg x)
+pub neg-zero : (x : Float) → Zero x → Zero (neg x)
 unfolding neg
 neg-zero x z = rw (z .is) (zero-at (not (z .sign)) (z .power))
 
@@ -225,7 +225,7 @@ sum-left f true false a b c h B = let q : b - a ≡ b = omega arith in rw (lt-lt
 sum-left f false true a b c h B = let q : b - a ≡ b = omega arith in rw (lt-ltb a b (omega arith), q) refl
 sum-left f false false a b c h B = let q : a + b ≡ b = omega arith in rw q refl
 
-add-zero-right : (f : Format) (x z : Float) → T (fits f x) → Zero z → Same (add f x z) x
+pub add-zero-right : (f : Format) (x z : Float) → T (fits f x) → Zero z → Same (add f x z) x
 unfolding add
 add-zero-right f nan z h w = inl refl
 add-zero-right f (inf s) z h w = rw (w .is) (inl refl)

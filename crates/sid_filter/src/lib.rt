@@ -5,6 +5,7 @@ ghost use Rattle.bundle.specs.Opening.{openOf};
 ghost use Rattle.curves.specs.Building.{judgeBuildOf, buildOf};
 ghost use Rattle.filter.specs.Lent.{lentOf};
 ghost use Rattle.run.specs.Run.{runOf};
+ghost use Rattle.signals.specs.Collecting.{collectAnswerOf, collectedOf};
 ghost use Rattle.direct.specs.Calls.{sampleCurveCallOf, volumeTransferCallOf};
 ghost use Rattle.points.specs.Points.{summerCallOf, mixerCallOf, samplePointCallOf};
 ghost use Rattle.sid_filter.specs.Calls.{runAnswerOf, ranAnswerOf, uncountedOf, pointAnswerOf};
@@ -88,6 +89,27 @@ pub extern "C" fn sid_filter_run(
     let ended = run::run(bundle, curves, state, script, output);
     let answer = ended.answer;
     run_answer(answer, ended.events as u32, ended.samples as u32)
+}
+
+// ---- voices
+
+// The eight sums of a routing and a mode nibble, for three voices and the six numbers beside them. Refuses 10, 11, 6, and then leaves the lent sums.
+#[no_mangle]
+pub extern "C" fn sid_filter_collect(
+    routing: u8,
+    mode: u8,
+    voices: &[u8],
+    numbers: &[u8],
+    sums: &mut [u8],
+) -> RunAnswer
+    ensures { λ r. ⌜ r ≡ runAnswerOf (collectAnswerOf routing mode (now (voices .entry)) (now (numbers .entry)) (length (now (sums .entry)))) 0 0 ⌝ }
+    ensures { λ _. ⌜ now (sums .exit) ≡ collectedOf routing mode (now (voices .entry)) (now (numbers .entry)) (now (sums .entry)) ⌝ }
+{
+    run_answer(
+        signals::collect_lent(routing, mode, voices, numbers, sums),
+        0,
+        0,
+    )
 }
 
 // ---- where on a curve

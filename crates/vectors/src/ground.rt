@@ -97,7 +97,8 @@ fn answer_of(number: u32, buffer: u32, place: u32) -> Answer {
         6 => Answer::Domain,
         7 => Answer::Script,
         8 => Answer::OutputLength,
-        _ => Answer::Argument,
+        10 => Answer::Argument,
+        _ => Answer::Sources,
     }
 }
 

@@ -6,6 +6,7 @@ use lib.ListN.{length, getD, take, drop}
 use lib.Dec.{leb, ltb}
 use lib.IntN.{ℤ}
 use lib.Ieee.{Float, binary32, ofBits, toBits}
+use lib.Ieee.Scale.{finite}
 use mir.Syntax.{w16}
 use mir.Val.{toZ}
 
@@ -74,6 +75,10 @@ allUsable (b ∷ bs) = usableOf b && allUsable bs
 -- Finite: below the infinity's bits.
 unfoldable pub finiteBitsOf : ℕ → Bool
 finiteBitsOf b = ltb (b % 2 ^ 31) 0x7f80_0000
+
+-- The float at p is finite.
+abbrev pub finiteAt : List ℕ → ℕ → Bool
+finiteAt s p = finite (f32At s p)
 
 -- ---- writing
 

@@ -7,7 +7,7 @@ ghost use lib.ListN.{length};
 ghost use lib.Ieee.{binary32, ofBits, toBits};
 ghost use mir.Syntax.{w16};
 ghost use mir.Val.{toZ, ofZ};
-ghost use Rattle.wire.specs.Wire.{little, byteAt, u16At, i16At, u32At, sixteenAt, f32At, usableOf, usableAt, allUsable, finiteBitsOf, bytesOf, floatBytes, rowBytes, putAt};
+ghost use Rattle.wire.specs.Wire.{little, byteAt, u16At, i16At, u32At, sixteenAt, f32At, usableOf, usableAt, allUsable, finiteBitsOf, finiteAt, bytesOf, floatBytes, rowBytes, putAt};
 ghost use Rattle.wire.specs.First.{firstUnusableOf};
 ghost use Rattle.wire.specs.Inner.{fourAt, blockUsableOf};
 
@@ -192,6 +192,13 @@ pub fn usable_at(s: &[u8], p: usize) -> bool
     ensures { λ r. ⌜ r ≡ usableAt (now (s .entry)) p ⌝ }
 {
     usable(u32_at(s, p))
+}
+
+// Whether the float at a place is finite.
+pub fn finite_at(s: &[u8], p: usize) -> bool
+    ensures { λ r. ⌜ r ≡ finiteAt (now (s .entry)) p ⌝ }
+{
+    finite_bits(u32_at(s, p))
 }
 
 // ---- the first unusable entry

@@ -59,6 +59,9 @@
 //! **Behind the filter.** The volume and voice 3 off, bits 0 to 3 and 7 of [`Event::Mode`], change no sample: they act in the mixer and the
 //! volume DAC, which [`mixer`] and [`volume`] ask by themselves.
 //!
+//! **From voices.** [`collect`] works `input_sum` and `source_energy` out from three [`Voice`]s and the external input's [`Levels`], with the
+//! six other [`Sums`] of a clock: what goes into the filter, and what goes beside it.
+//!
 //! **On the curves.** [`sample_point`] says where on its curve the summer stands for a sample, and [`sample_curve`], [`summer`], [`mixer`]
 //! and [`volume`] answer such a [`Point`] too. None of them changes anything.
 #![deny(missing_docs)]
@@ -76,6 +79,7 @@ mod refusal;
 mod run;
 mod script;
 mod state;
+mod voice;
 
 pub use bundle::{Bundle, Curves, BUNDLE_BYTES, CURVES_BYTES};
 pub use level::{voice_level, CLOCK_HZ, MODE_REST, VOICE_REST, VOICE_RISE, VOICE_SWING};
@@ -84,3 +88,4 @@ pub use refusal::{Buffer, Refusal};
 pub use run::{run, run_bytes, run_samples, samples, Done, Sample, Stop, SAMPLE_BYTES};
 pub use script::{pieces, Event, Full, Pieces, Script, EVENTS_MAX, EVENT_BYTES, SCRIPT_HEADER_BYTES};
 pub use state::{State, STATE_BYTES};
+pub use voice::{collect, Levels, Sums, Voice, NUMBERS_BYTES, SUMS_BYTES, VOICE_BYTES};

@@ -40,6 +40,16 @@ extern "C" {
         output: *mut u8,
         output_len: usize,
     ) -> Answer;
+    fn sid_filter_collect(
+        routing: u8,
+        mode: u8,
+        voices: *const u8,
+        voices_len: usize,
+        numbers: *const u8,
+        numbers_len: usize,
+        sums: *mut u8,
+        sums_len: usize,
+    ) -> Answer;
     fn sid_filter_sample_curve(curves: *const u8, curves_len: usize, curve: u32, input: f32) -> PointAnswer;
     fn sid_filter_summer(bundle: *const u8, bundle_len: usize, curves: *const u8, curves_len: usize, routing: u8, sum: f32) -> PointAnswer;
     fn sid_filter_mixer(curves: *const u8, curves_len: usize, routing: u8, mode: u8, sum: f32) -> PointAnswer;
@@ -84,6 +94,14 @@ pub(crate) fn run(bundle: &[u8], curves: &[u8], state: &mut [u8], script: &[u8],
             output.as_mut_ptr(),
             output.len(),
         )
+    }
+}
+
+/// Collects the sums of voices.
+pub(crate) fn collect(routing: u8, mode: u8, voices: &[u8], numbers: &[u8], sums: &mut [u8]) -> Answer {
+    // SAFETY: slices' pointers and lengths; only `sums` is written, and it is borrowed alone.
+    unsafe {
+        sid_filter_collect(routing, mode, voices.as_ptr(), voices.len(), numbers.as_ptr(), numbers.len(), sums.as_mut_ptr(), sums.len())
     }
 }
 
@@ -139,6 +157,7 @@ mod tests {
     use super::{Answer, PointAnswer};
     use crate::header::{defined, HEADER};
     use crate::{Point, BUNDLE_BYTES, CURVES_BYTES, EVENTS_MAX, EVENT_BYTES, SAMPLE_BYTES, SCRIPT_HEADER_BYTES, STATE_BYTES};
+    use crate::{NUMBERS_BYTES, SUMS_BYTES, VOICE_BYTES};
     use std::mem::{align_of, offset_of, size_of};
 
     /// The five words lie as C lays them, in the order in which the header names them.
@@ -188,6 +207,9 @@ mod tests {
             ("EVENT_BYTES", EVENT_BYTES),
             ("SAMPLE_BYTES", SAMPLE_BYTES),
             ("EVENTS_MAX", EVENTS_MAX),
+            ("VOICE_BYTES", VOICE_BYTES),
+            ("NUMBERS_BYTES", NUMBERS_BYTES),
+            ("SUMS_BYTES", SUMS_BYTES),
         ];
         for (name, ours) in lengths {
             assert_eq!(defined(name).parse(), Ok(ours), "{name}");

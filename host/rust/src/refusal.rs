@@ -10,7 +10,7 @@ pub enum Buffer {
     Curves,
 }
 
-/// Why a call was refused: the nine causes that include/sid_filter.h lists. Its text is the sentence, with the place where there is one.
+/// Why a call was refused: the ten causes that include/sid_filter.h lists. Its text is the sentence, with the place where there is one.
 #[derive(Clone, Copy, Debug, PartialEq, Eq, Hash)]
 pub enum Refusal {
     /// 1: the bundle has another length.
@@ -37,12 +37,14 @@ pub enum Refusal {
     Script,
     /// 8: the output has too little room.
     OutputLength,
-    /// 10: the state block is invalid.
+    /// 10: the state block is invalid, or a number that is handed in by itself is past its table or not finite.
     Argument,
+    /// 11: a number of a voice, a level or a blend is not finite, or a voice's selection is above 15.
+    Sources,
 }
 
 impl Refusal {
-    /// The cause's number in the table, 1 to 8 or 10; 9 is unused.
+    /// The cause's number in the table, 1 to 8, 10 or 11; 9 is unused.
     pub fn number(self) -> u32 {
         match self {
             Refusal::BundleLength => 1,
@@ -54,6 +56,7 @@ impl Refusal {
             Refusal::Script => 7,
             Refusal::OutputLength => 8,
             Refusal::Argument => 10,
+            Refusal::Sources => 11,
         }
     }
 
@@ -72,6 +75,7 @@ impl Refusal {
             }
             Refusal::OutputLength => "the output is shorter than 16 bytes a sample event",
             Refusal::Argument => "the state block is invalid",
+            Refusal::Sources => "a voice, or a number lent beside the voices, is invalid",
         }
     }
 
@@ -106,7 +110,8 @@ impl Refusal {
             7 => Some(Refusal::Script),
             8 => Some(Refusal::OutputLength),
             10 => Some(Refusal::Argument),
-            number => unreachable!("the library answers 0 to 8 or 10, not {number}"),
+            11 => Some(Refusal::Sources),
+            number => unreachable!("the library answers 0 to 8, 10 or 11, not {number}"),
         }
     }
 }
@@ -136,11 +141,11 @@ mod tests {
         Answer { number, events: 0, samples: 0, buffer: 1, place: 56 }
     }
 
-    /// Each of the nine has its number, and buffer and place where the table has them.
+    /// Each of the ten has its number, and buffer and place where the table has them.
     #[test]
     fn every_number_has_its_refusal() {
         assert_eq!(Refusal::of(answer(0)), None);
-        for number in (1..=8).chain([10]) {
+        for number in (1..=8).chain([10, 11]) {
             let refusal = Refusal::of(answer(number)).expect("a refusal");
             assert_eq!(refusal.number(), number);
             assert_eq!(refusal.buffer(), (number == 3).then_some(Buffer::Curves));
@@ -162,6 +167,7 @@ mod tests {
             ("SCRIPT", Refusal::Script),
             ("OUTPUT_LENGTH", Refusal::OutputLength),
             ("ARGUMENT", Refusal::Argument),
+            ("SOURCES", Refusal::Sources),
         ];
         for (name, refusal) in named {
             let line = format!("    SID_FILTER_{name} = {}", refusal.number());
@@ -185,6 +191,7 @@ mod tests {
             ("Script", Refusal::Script),
             ("OutputLength", Refusal::OutputLength),
             ("Argument", Refusal::Argument),
+            ("Sources", Refusal::Sources),
         ];
         for (name, refusal) in named {
             let words = format!("ascii \"{}\"", refusal.sentence());

@@ -105,6 +105,15 @@ slice-aggregate-push-8 c = search needs
 push-requires-8 : tie.Need-push-requires-8
 push-requires-8 c κs = search needs
 
+enum-told-11 : tie.Need-enum-told-11
+enum-told-11 c = search needs
+
+slice-aggregate-push-9 : tie.Need-slice-aggregate-push-9
+slice-aggregate-push-9 c = search needs
+
+push-requires-9 : tie.Need-push-requires-9
+push-requires-9 c κs = search needs
+
 same-length : tie.Need-same-length
 same-length c = search needs
 
@@ -186,6 +195,13 @@ returns-11 : tie.Need-returns-11
 unfolding wordsOf
 returns-11 c = (c .before .before .push8 .ensures .0, rw (c .before .before .before .before .before .enum-told10 .given .1) (c .before .before .push8 .ensures .1))
 
+same-length-12 : tie.Need-same-length-12
+same-length-12 c = search needs
+
+returns-12 : tie.Need-returns-12
+unfolding wordsOf
+returns-12 c = (c .before .before .push9 .ensures .0, rw (c .before .before .before .before .before .enum-told11 .given .1) (c .before .before .push9 .ensures .1))
+
 pub push-words-spec : {M : Type 1} → statement M
 push-words-spec =
     tie.close
@@ -224,6 +240,9 @@ push-words-spec =
     enum-told-10
     slice-aggregate-push-8
     push-requires-8
+    enum-told-11
+    slice-aggregate-push-9
+    push-requires-9
     same-length
     returns
     same-length-2
@@ -245,4 +264,6 @@ push-words-spec =
     same-length-10
     returns-10
     same-length-11
-    returns-11)
+    returns-11
+    same-length-12
+    returns-12)
