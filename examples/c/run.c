@@ -1,5 +1,5 @@
 /* Opens a bundle, builds its curves and runs a small script: uncut, cut into two pieces, with a sample that is refused, and with too short
- * an output; and asks where on its curve the last sample stood.
+ * an output; asks where on its curve the last sample stood, and collects its two numbers from the voices themselves.
  *
  * usage: run BUNDLE */
 #include "sid_filter.h"
@@ -135,6 +135,21 @@ int main(int argc, char **argv)
         get_f32(last + 4), get_f32(last + 8));
     good &= print_answer("point", point.answer, SID_FILTER_DONE);
     printf("  index %lu  fraction %.7f  value % .7f\n", (unsigned long)point.index, point.fraction, point.value);
+
+    /* The two numbers of that sample from its voices, as the emulator rounds them: voices 1 and 2 through the filter, a pulse and a silent
+     * one; voice 3 and the external input at rest beside it. A selection of 16 is no voice's. */
+    uint8_t voices[3 * SID_FILTER_VOICE_BYTES] = { 0 }, numbers[SID_FILTER_NUMBERS_BYTES] = { 0 }, sums[SID_FILTER_SUMS_BYTES];
+    put_f32(voices, 0.75f);
+    put_f32(voices + 4, 1.0f);
+    voices[8] = 4;
+    put_f32(voices + SID_FILTER_VOICE_BYTES, 0.5f);
+    put_f32(numbers + 4, SID_FILTER_VOICE_REST);
+    put_f32(numbers + 8, SID_FILTER_VOICE_REST);
+    good &= print_answer("collect", sid_filter_collect(3, 2, voices, sizeof voices, numbers, sizeof numbers, sums, sizeof sums), SID_FILTER_DONE);
+    printf("  input sum %.7f  source energy %.7f  beside the filter %.7f\n", get_f32(sums), get_f32(sums + 4), get_f32(sums + 12));
+    voices[8] = 16;
+    good &= print_answer("selection 16", sid_filter_collect(3, 2, voices, sizeof voices, numbers, sizeof numbers, sums, sizeof sums),
+        SID_FILTER_SOURCES);
 
     /* An infinite sum in the fourth sample: the run stops there, with three samples written. */
     memset(other_state, 0, sizeof other_state);

@@ -54,25 +54,16 @@ impl Sources {
 
     pub fn sums_on(&self, topology: &MixingTopology) -> [f32; 8] {
         let [raw, filter_level, mixer_level, blends @ ..] = self.numbers;
-        let RoutedSignals {
-            filter_input_sum,
-            filter_source_energy,
-            filter_input_activity,
-            bypass_input_sum,
-            bypass_envelope_activity,
-            pure_bypass_envelope_activity,
-            pure_bypass_attack_drive,
-            pure_pulse_envelope_activity,
-        } = RoutedSignals::collect(topology, &self.voices, &blends, filter_level, mixer_level, raw, resting());
+        let sums = RoutedSignals::collect(topology, &self.voices, &blends, filter_level, mixer_level, raw, resting());
         [
-            filter_input_sum,
-            filter_source_energy,
-            filter_input_activity,
-            bypass_input_sum,
-            bypass_envelope_activity,
-            pure_bypass_envelope_activity,
-            pure_bypass_attack_drive,
-            pure_pulse_envelope_activity,
+            sums.filter_input_sum,
+            sums.filter_source_energy,
+            sums.filter_input_activity,
+            sums.bypass_input_sum,
+            sums.bypass_envelope_activity,
+            sums.pure_bypass_envelope_activity,
+            sums.pure_bypass_attack_drive,
+            sums.pure_pulse_envelope_activity,
         ]
     }
 

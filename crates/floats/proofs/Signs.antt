@@ -1,7 +1,7 @@
 -- A sum never comes out as -0.0 unless it was -0.0 before: what fits its format is a whole number of the format's smallest values, so that a sum other than zero
 -- does not round to zero, and a sum that is zero has the sign + . Over the format. Assumes nothing.
 use mathlib.Core.Path.{_≡_, refl, sym, ap, _∙_, subst}
-use mathlib.Core.Logic.{_⊎_, inl, inr}
+use mathlib.Core.Logic.{inl, inr}
 use mathlib.Core.Bool.{Bool, true, false, cond, Bool·beq, true≢false}
 use Prim.Native.Nat.{ℕ, zero, suc, _+_, _-_, _*_, _^_, _≤_, _<_}
 use native.Mathlib.Nat.{le-of-eq, le-trans, zero-lt-suc, add-comm, add-mul, suc-mul, pow-suc, mul-one, one-mul, zero-mul, mul-assoc, mul-right-comm, mul-pos, mul-le-mul-right, mul-lt-mul-of-pos-right, lt-of-mul-lt-mul-right}

@@ -12,7 +12,6 @@ use voice::VoiceSignal;
 
 // The sums, each from 0.0 on: of what the filter takes the levels, the energy and the envelopes; of what goes beside it the levels and the envelopes, and of
 // the pure voices there the envelopes, the attack drives and the envelopes of the pulses.
-#[repr(C)]
 pub struct RoutedSignals {
     pub filter_input_sum: f32,
     pub filter_source_energy: f32,

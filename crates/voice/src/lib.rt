@@ -4,7 +4,6 @@ ghost use Rattle.voice.specs.Voice.{voiceAt, validVoiceAt};
 ghost use Rattle.voice.specs.Levels.{sourceRestingOf, filterVoiceSignalOf, mixerWaveformOf, mixerVoiceSignalOf};
 
 // The levels of the two DACs, the number of the selected waveforms, whether they are a combination, and whether the waveform DAC stands still.
-#[repr(C)]
 pub struct VoiceSignal {
     pub waveform: f32,
     pub envelope: f32,

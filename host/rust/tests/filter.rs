@@ -479,9 +479,9 @@ fn point_words(point: Result<Point, Refusal>) -> [u32; 4] {
     }
 }
 
-/// The records of a file of the program `vectors_surface`, so many words each.
-fn points<const N: usize>(name: &str) -> Vec<[u32; N]> {
-    let bytes = file(&format!(concat!(env!("CARGO_MANIFEST_DIR"), "/../../crates/vectors_surface/data/{}.bin"), name));
+/// The records of a file of a program, so many words each.
+fn records<const N: usize>(program: &str, name: &str) -> Vec<[u32; N]> {
+    let bytes = file(&format!(concat!(env!("CARGO_MANIFEST_DIR"), "/../../crates/{}/data/{}.bin"), program, name));
     let words: Vec<u32> = bytes.chunks_exact(4).map(|word| u32::from_le_bytes(word.try_into().unwrap())).collect();
     words.chunks_exact(N).map(|record| record.try_into().unwrap()).collect()
 }
@@ -490,10 +490,10 @@ fn points<const N: usize>(name: &str) -> Vec<[u32; N]> {
 #[test]
 fn points_are_those_of_the_vectors() {
     let (bundle, curves) = (bundle(), curves());
-    for [curve, input, told @ ..] in points::<6>("sample_curve") {
+    for [curve, input, told @ ..] in records::<6>("vectors_surface", "sample_curve") {
         assert_eq!(point_words(sample_curve(curves, curve, f32::from_bits(input))), told, "curve {curve} at {input:x}");
     }
-    for [transfer, first, second, input, told @ ..] in points::<8>("transfers") {
+    for [transfer, first, second, input, told @ ..] in records::<8>("vectors_surface", "transfers") {
         let (first, second, input) = (first as u8, second as u8, f32::from_bits(input));
         let ours = match transfer {
             0 => summer(&bundle, curves, first, input),
@@ -502,7 +502,7 @@ fn points_are_those_of_the_vectors() {
         };
         assert_eq!(point_words(ours), told, "transfer {transfer}, {first}, {second} at {input}");
     }
-    for record in points::<12>("sample_point") {
+    for record in records::<12>("vectors_surface", "sample_point") {
         let block: Vec<u8> = record[..6].iter().flat_map(|word| word.to_le_bytes()).collect();
         let state = State::from_bytes(block.try_into().unwrap());
         let [sum, energy] = [record[6], record[7]].map(f32::from_bits);
@@ -536,4 +536,79 @@ fn points_refuse_by_the_table() {
     block[12..16].copy_from_slice(&3.0e38_f32.to_le_bytes());
     assert_eq!(sample_point(&bundle, curves(), &State::from_bytes(block), 0.0, f32::NAN).err(), Some(Refusal::InputNotFinite));
     assert_eq!(sample_point(&bundle, curves(), &State::from_bytes(block), 0.0, 0.0).err(), Some(Refusal::Domain));
+}
+
+/// Number and bits of the sums, zeros beside a refusal.
+fn sum_words(sums: Result<Sums, Refusal>) -> [u32; 9] {
+    match sums {
+        Ok(sums) => {
+            let Sums { filter_input, source_energy, filter_activity, bypass_input, .. } = sums;
+            let Sums { bypass_activity, pure_activity, attack_drive, pulse_activity, .. } = sums;
+            let [a, b, c, d] = [filter_input, source_energy, filter_activity, bypass_input].map(f32::to_bits);
+            let [e, f, g, h] = [bypass_activity, pure_activity, attack_drive, pulse_activity].map(f32::to_bits);
+            [0, a, b, c, d, e, f, g, h]
+        }
+        Err(refusal) => [refusal.number(), 0, 0, 0, 0, 0, 0, 0, 0],
+    }
+}
+
+/// The sums are those of the Rust, as the oracle told them.
+#[test]
+fn sums_are_those_of_the_vectors() {
+    for record in records::<26>("vectors_voices", "collect") {
+        let float = |place: usize| f32::from_bits(record[place]);
+        let voices = [2, 5, 8].map(|at| {
+            let [selection, combined, frozen, _] = record[at + 2].to_le_bytes();
+            Voice { waveform: float(at), envelope: float(at + 1), selection, combined: combined == 1, frozen: frozen == 1 }
+        });
+        let levels = Levels { raw: float(11), filter: float(12), mixer: float(13) };
+        let ours = collect(record[0] as u8, record[1] as u8, &voices, &levels, &[float(14), float(15), float(16)]);
+        assert_eq!(sum_words(ours), record[17..], "{record:x?}");
+    }
+}
+
+/// Three voices that sound.
+fn voices() -> [Voice; 3] {
+    [1, 2, 4].map(|selection| Voice { waveform: 0.3, envelope: 0.5, selection, ..Voice::default() })
+}
+
+/// A voice whose envelope goes to 0 leaves its rest in its sum; the other voices keep what they add, to the last bit.
+#[test]
+fn a_silent_voice_leaves_its_rest() {
+    for envelope in [0.0, -0.0] {
+        let [one, two, three] = voices();
+        let silent = Voice { envelope, ..one };
+        let sums = collect(3, 8, &[silent, two, three], &Levels::rest(), &[0.0; 3]).unwrap();
+        let without = collect(2, 8, &[silent, two, three], &Levels::rest(), &[0.0; 3]).unwrap();
+        assert_eq!(sums.filter_input, VOICE_REST + without.filter_input);
+        assert_eq!((sums.source_energy, sums.filter_activity), (without.source_energy, without.filter_activity));
+        // Voice 3 is off, so the external input is alone beside the filter.
+        assert_eq!((sums.bypass_input, sums.bypass_activity, sums.pulse_activity), (VOICE_REST, 0.0, 0.0));
+    }
+}
+
+/// Every voice and every number is judged, also one that is not read: with all routed no blend is, and voice 3 that is off is heard nowhere.
+#[test]
+fn refusal_11() {
+    let (levels, blends) = (Levels::rest(), [0.0; 3]);
+    assert!(collect(15, 0, &voices(), &levels, &blends).is_ok());
+    assert_eq!(collect(15, 0, &voices(), &levels, &[0.0, f32::NAN, 0.0]), Err(Refusal::Sources));
+    assert_eq!(collect(15, 0, &voices(), &Levels { mixer: f32::INFINITY, ..levels }, &blends), Err(Refusal::Sources));
+    let flaws: [fn(&mut Voice); 3] =
+        [|voice| voice.selection = 16, |voice| voice.waveform = f32::NAN, |voice| voice.envelope = f32::NEG_INFINITY];
+    for flaw in flaws {
+        let mut flawed = voices();
+        flaw(&mut flawed[2]);
+        assert_eq!(collect(0, 8, &flawed, &levels, &blends), Err(Refusal::Sources));
+        assert_eq!(collect(16, 8, &flawed, &levels, &blends), Err(Refusal::Argument));
+    }
+}
+
+/// A sum that leaves the domain.
+#[test]
+fn collecting_refuses_with_6() {
+    let mut loud = voices();
+    loud[0].envelope = 3.0e38;
+    loud[1].envelope = 3.0e38;
+    assert_eq!(collect(3, 0, &loud, &Levels::rest(), &[0.0; 3]), Err(Refusal::Domain));
 }
