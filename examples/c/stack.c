@@ -50,6 +50,15 @@ static void run_script(void)
         sizeof output);
 }
 
+/* Saws at half their level: voice 1 through the filter, voice 3 beside it; voice 2 silent. */
+static void collect(void)
+{
+    static uint8_t voices[3 * SID_FILTER_VOICE_BYTES] = { [3] = 0x3f, [7] = 0x3f, [8] = 2, [27] = 0x3f, [31] = 0x3f, [32] = 2 };
+    static uint8_t numbers[SID_FILTER_NUMBERS_BYTES], sums[SID_FILTER_SUMS_BYTES];
+    frame = __builtin_frame_address(0);
+    answer = sid_filter_collect(1, 1, voices, sizeof voices, numbers, sizeof numbers, sums, sizeof sums);
+}
+
 static void sample_curve(void)
 {
     frame = __builtin_frame_address(0);
@@ -145,6 +154,7 @@ int main(void)
     int good = print_taken("sid_filter_open", open_bundle, SID_FILTER_HEADER) &&
         print_taken("sid_filter_build_curves", build_curves, SID_FILTER_HEADER) &&
         print_taken("sid_filter_run", run_script, SID_FILTER_HEADER) &&
+        print_taken("sid_filter_collect", collect, SID_FILTER_DONE) &&
         print_taken("sid_filter_sample_curve", sample_curve, SID_FILTER_DONE) &&
         print_taken("sid_filter_summer", summer, SID_FILTER_HEADER) && print_taken("sid_filter_mixer", mixer, SID_FILTER_DONE) &&
         print_taken("sid_filter_volume", volume, SID_FILTER_DONE) &&
