@@ -74,13 +74,7 @@ fn any(random: &mut Random, list: &[f32]) -> f32 {
 }
 
 fn any_sources(random: &mut Random) -> Sources {
-    let bits = random.bits();
-    let voices = [0, 8, 16].map(|shift| {
-        let (selection, flags) = ((bits >> shift) as u8 % 16, FLAGS[(bits >> (shift + 4)) as usize % 4]);
-        voice(any(random, &WAVEFORMS), any(random, &ENVELOPES), selection, flags)
-    });
-    let numbers = [0; 6].map(|_| any(random, &[0.0, -0.0, 0.45, 1.0, -1.0, 2e19]));
-    Sources { routing: (bits >> 24) as u8 % 16, mode: (bits >> 32) as u8 % 16, voices, numbers }
+    Sources::any(random.bits(), |list| any(random, list))
 }
 
 /// Sixteen routings, voice 3 on and off; in turn each voice with every selection, both flags, every envelope and waveform of the lists and three blends; the

@@ -1278,27 +1278,19 @@ fn any_of(random: &mut Random, list: &[f32]) -> f32 {
 }
 
 fn any_sources(random: &mut Random) -> Sources {
-    let voices = [0; 3].map(|_| {
-        let (selection, flags) = (random.below(16) as u8, FLAGS[random.below(4) as usize]);
-        voice(any_of(random, &WAVEFORMS), any_of(random, &ENVELOPES), selection, flags)
-    });
-    let numbers = [0; 6].map(|_| any_of(random, &[0.0, -0.0, 0.45, 2e19]));
-    Sources { routing: random.below(16) as u8, mode: random.below(16) as u8, voices, numbers }
+    Sources::any(random.bits(), |list| any_of(random, list))
 }
 
 /// Nibbles, voices and numbers; number of the refusal, 0 or 6, and the eight sums, zeros where one of them is not finite. First the sources by which a sum alone
-/// is not finite; then each routing with voice 3 on and off, each selection with its flags, each envelope and each waveform, the rest at random.
+/// is not finite; then each routing with voice 3 on and off, in each of them a voice of every selection and all flags, the rest at random.
 fn collected() -> Vec<[u32; 26]> {
     let mut random = Random::of("collect");
     let mut cases: Vec<Sources> = not_finite_alone().into_iter().map(|(_, sources)| sources).collect();
-    for number in 0..32 * 32 {
+    for number in 0..16 * 2 * 16 * 4 {
         let mut sources = any_sources(&mut random);
         (sources.routing, sources.mode) = (number as u8 % 16, number as u8 / 16 % 2 * 8 + sources.mode % 8);
-        let changed = &mut sources.voices[number / 32 % 3];
-        changed.waveform_selection = (number / 32 % 16) as u8;
-        [changed.combined, changed.frozen] = FLAGS[number / 512 * 2 + number % 2];
-        changed.envelope = ENVELOPES[number % ENVELOPES.len()];
-        changed.waveform = WAVEFORMS[number % WAVEFORMS.len()];
+        let (waveform, envelope) = (WAVEFORMS[number % WAVEFORMS.len()], ENVELOPES[number % ENVELOPES.len()]);
+        sources.voices[number % 3] = voice(waveform, envelope, (number / 32 % 16) as u8, FLAGS[number / 512]);
         cases.push(sources);
     }
     cases
@@ -1340,6 +1332,12 @@ fn refused_collects() -> Vec<[u32; 21]> {
     let floats = [2, 3, 5, 6, 8, 9].into_iter().chain(11..17);
     for (place, flaw) in floats.flat_map(|place| [0x7f80_0000, 0xff80_0000, 0x7fc0_0000, 0xffff_ffff].map(|flaw| (place, flaw))) {
         flawed(11, WHOLE, place, flaw);
+    }
+    // 11 comes before any sum: sums that are not finite, and a last byte that is not zero.
+    for (_, sources) in not_finite_alone() {
+        let mut words = source_words(&sources);
+        words[10] |= 0x0100_0000;
+        cases.push(joined([&words, &WHOLE, &[11]]));
     }
     cases
 }

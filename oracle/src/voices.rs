@@ -33,6 +33,16 @@ impl Sources {
         Sources { routing, mode, voices: [voice(0.0, 0.0, 0, PURE); 3], numbers: [0.0, resting(), resting(), 0.0, 0.0, 0.0] }
     }
 
+    /// Any valid sources: nibbles, selections and flags by `bits`, each number by `pick`, which is offered a list.
+    pub fn any(bits: u64, mut pick: impl FnMut(&[f32]) -> f32) -> Self {
+        let voices = [0, 8, 16].map(|shift| {
+            let (selection, flags) = ((bits >> shift) as u8 % 16, FLAGS[(bits >> (shift + 4)) as usize % 4]);
+            voice(pick(&WAVEFORMS), pick(&ENVELOPES), selection, flags)
+        });
+        let numbers = [0; 6].map(|_| pick(&[0.0, -0.0, 0.45, 1.0, -1.0, 2e19]));
+        Sources { routing: (bits >> 24) as u8 % 16, mode: (bits >> 32) as u8 % 16, voices, numbers }
+    }
+
     pub fn voice_bytes(&self) -> [u8; 36] {
         let bytes = self.voices.map(|voice| {
             let [a, b, c, d] = voice.waveform.to_le_bytes();

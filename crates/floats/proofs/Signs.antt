@@ -1,5 +1,5 @@
--- A sum never comes out as -0.0 unless it was -0.0 before: what fits its format is a whole number of the format's smallest values, so that a sum other than zero
--- does not round to zero, and a sum that is zero has the sign + . Over the format. Assumes nothing.
+-- What is summed up from 0.0 is never -0.0 (`Summed`), so that a zero of either sign, added to it, changes no bit. What fits its format is a whole number of the
+-- format's smallest values: a sum other than zero does not round to zero, and one that is zero has the sign +. Over the format. Assumes nothing.
 use mathlib.Core.Path.{_≡_, refl, sym, ap, _∙_, subst}
 use mathlib.Core.Logic.{inl, inr}
 use mathlib.Core.Bool.{Bool, true, false, cond, Bool·beq, true≢false}
@@ -46,25 +46,14 @@ round-signed f s a c = units-signed f s _ _
 -- ---- no -0.0
 
 -- where it is a zero, its sign is +
-pub record Plus (x : Float) : Type 0 where
-  pub plus : Zero x → signOf x ≡ false
+record Plus (x : Float) : Type 0 where
+  plus : Zero x → signOf x ≡ false
 
 signed-plus : {x : Float} → signOf x ≡ false → Plus x
 signed-plus h = record { plus = λ _. h }
 
 other-plus : {x : Float} → (Zero x → ⊥) → Plus x
 other-plus h = record { plus = λ z. absurd (h z) }
-
--- 0.0, by its bits
-pub bits-zero : (f : Format) → Zero (ofBits f 0)
-unfolding ofBits
-bits-zero binary32 = record { sign = false; power = pos 0; is = refl }
-bits-zero binary64 = record { sign = false; power = pos 0; is = refl }
-
-pub bits-plus : (f : Format) → Plus (ofBits f 0)
-unfolding ofBits
-bits-plus binary32 = signed-plus refl
-bits-plus binary64 = signed-plus refl
 
 -- ---- from the format's smallest value on nothing rounds to zero
 
@@ -93,9 +82,9 @@ some-round f true a c C h z =
 -- ---- sums
 
 -- what fits is a whole number of smallest values
-whole-units : (f : Format) (s : Bool) (m : ℕ) (e : ℤ) → T (fits f (fin s m e)) → (n : ℕ) × (m * up e * 2 ^ low f ≡ n * down e)
-whole-units f s zero e h = (0, ap (λ (k : ℕ). k * 2 ^ low f) (zero-mul (up e)) ∙ zero-mul (2 ^ low f) ∙ sym (zero-mul (down e)))
-whole-units f s (suc m) e h = let j = own-units f (suc m) e (held f s m e h) in (suc m * 2 ^ (j .0), j .1)
+in-units : (f : Format) (s : Bool) (m : ℕ) (e : ℤ) → T (fits f (fin s m e)) → (n : ℕ) × (m * up e * 2 ^ low f ≡ n * down e)
+in-units f s zero e h = (0, ap (λ (k : ℕ). k * 2 ^ low f) (zero-mul (up e)) ∙ zero-mul (2 ^ low f) ∙ sym (zero-mul (down e)))
+in-units f s (suc m) e h = let j = own-units f (suc m) e (held f s m e h) in (suc m * 2 ^ (j .0), j .1)
 
 -- the larger of two is more by at least one
 more-by-one : (a b c w m n : ℕ) → 0 < w → a * w ≡ m * c → b * w ≡ n * c → b < a → c ≤ (a - b) * w
@@ -130,11 +119,11 @@ unfinite-plus : (x : Float) → finite x ≡ false → Plus x
 unfinite-plus x h = other-plus (λ (z : Zero x). true≢false (sym (zero-finite z) ∙ h))
 
 -- a negative number that is no -0.0
-some-digits : (f : Format) (s : Bool) (m : ℕ) (e d : ℤ) → Plus (fin s m e) → s ≡ true → 0 < m * up e * down d
-some-digits f s zero e d p h = absurd (true≢false (sym h ∙ p .plus (record { sign = s; power = e; is = refl })))
-some-digits f s (suc m) e d p h = mul-pos (mul-pos {m = suc m} {n = up e} (zero-lt-suc m) (up-pos e)) (down-pos d)
+some-digits : (s : Bool) (m : ℕ) (e d : ℤ) → Plus (fin s m e) → s ≡ true → 0 < m * up e * down d
+some-digits s zero e d p h = absurd (true≢false (sym h ∙ p .plus (record { sign = s; power = e; is = refl })))
+some-digits s (suc m) e d p h = mul-pos (mul-pos {m = suc m} {n = up e} (zero-lt-suc m) (up-pos e)) (down-pos d)
 
-pub add-plus : (f : Format) (x y : Float) → T (fits f x) → T (fits f y) → Plus x → Plus (add f x y)
+add-plus : (f : Format) (x y : Float) → T (fits f x) → T (fits f y) → Plus x → Plus (add f x y)
 unfolding add
 add-plus f nan y fx fy p = unfinite-plus nan refl
 add-plus f (inf s) nan fx fy p = unfinite-plus nan refl
@@ -148,12 +137,12 @@ add-plus f (fin s m e) nan fx fy p = unfinite-plus nan refl
 add-plus f (fin s m e) (inf t) fx fy p = unfinite-plus (inf t) refl
 add-plus f (fin s m e) (fin t n d) fx fy p =
     let w = 2 ^ low f in
-    let u = whole-units f s m e fx in
-    let v = whole-units f t n d fy in
+    let u = in-units f s m e fx in
+    let v = in-units f t n d fy in
     sum-plus f s t (m * up e * down d) (n * up d * down e) (down e * down d) (u .0) (v .0) (mul-pos (down-pos e) (down-pos d))
     (mul-right-comm (m * up e) (down d) w ∙ ap (λ (k : ℕ). k * down d) (u .1) ∙ mul-assoc (u .0) (down e) (down d))
     (mul-right-comm (n * up d) (down e) w ∙ ap (λ (k : ℕ). k * down e) (v .1) ∙ mul-right-comm (v .0) (down d) (down e) ∙ mul-assoc (v .0) (down e) (down d))
-    (some-digits f s m e d p)
+    (some-digits s m e d p)
 
 -- ---- a sum with a zero is the sum before, to the bit
 
@@ -173,9 +162,38 @@ plus-zero f x h p z =
     let e : z .power ≡ pos 0 = power-of-zero (z .power) (subst (λ (x : Float). T (fits f x)) (z .is) h) in
     z .is ∙ ap (λ (t : Bool). fin t 0 (z .power)) s ∙ ap (λ (d : ℤ). fin false 0 d) e
 
-pub add-nothing : (f : Format) (x z : Float) → T (fits f x) → T (fits f z) → Plus x → Zero z → add f x z ≡ x
+add-nothing : (f : Format) (x z : Float) → T (fits f x) → T (fits f z) → Plus x → Zero z → add f x z ≡ x
 add-nothing f x z h i p w = go (add-zero-right f x z h w)
   where
     go : Same (add f x z) x → add f x z ≡ x
     go (inl e) = e
     go (inr b) = plus-zero f (add f x z) (add-fits f x z) (add-plus f x z h i p) (b .0) ∙ sym (plus-zero f x h p (b .1))
+
+-- ---- what is summed up from 0.0
+
+-- a number of the format, and not -0.0
+pub record Summed (f : Format) (x : Float) : Type 0 where
+  held : T (fits f x)
+  plain : Plus x
+
+pub zero-summed : (f : Format) → Summed f (ofBits f 0)
+unfolding ofBits fits
+zero-summed binary32 = record { held = tt; plain = signed-plus refl }
+zero-summed binary64 = record { held = tt; plain = signed-plus refl }
+
+pub add-summed : (f : Format) {x : Float} (y : Float) → Summed f x → T (fits f y) → Summed f (add f x y)
+add-summed f {x} y s h = record { held = add-fits f x y; plain = add-plus f x y (s .held) h (s .plain) }
+
+-- it is not -0.0
+pub summed-plus : (f : Format) {x : Float} → Summed f x → (e : ℤ) → x ≡ fin true 0 e → ⊥
+summed-plus f s e h = true≢false (sym (ap signOf h) ∙ s .plain .plus (record { sign = true; power = e; is = h }))
+
+-- and a zero of either sign changes no bit of it
+pub summed-nothing : (f : Format) {x z : Float} → Summed f x → T (fits f z) → Zero z → add f x z ≡ x
+summed-nothing f {x} {z} s h w = add-nothing f x z (s .held) h (s .plain) w
+
+-- 0.0, by its bits
+pub bits-zero : (f : Format) → Zero (ofBits f 0)
+unfolding ofBits
+bits-zero binary32 = record { sign = false; power = pos 0; is = refl }
+bits-zero binary64 = record { sign = false; power = pos 0; is = refl }

@@ -1,3 +1,4 @@
 pub mod Masks
+pub mod Summed
 pub mod Told
 pub mod ZeroEnvelope

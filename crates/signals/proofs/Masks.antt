@@ -12,8 +12,8 @@ use Rattle.signals.specs.declared.Voices.{Voices}
 use Rattle.signals.specs.declared.SawBlends.{SawBlends}
 use Rattle.signals.specs.Signals.{maskedOf, addFilterVoiceOf, addBypassVoiceOf, addFilterVoicesOf, addVoicesOf}
 
-other : (mask k : ℕ) → k < mask → eqb mask k ≡ false
-other mask k h = ne-eqb mask k (λ (e : mask ≡ k). omega (arith, h, e))
+other-mask : (mask k : ℕ) → k < mask → eqb mask k ≡ false
+other-mask mask k h = ne-eqb mask k (λ (e : mask ≡ k). omega (arith, h, e))
 
 pub masked-told : (one two three : RoutedSignals → RoutedSignals) (mask : ℕ) (s : RoutedSignals)
     → let a = cond (ltb 7 mask || eqb (mask % 2) 1) (one s) s in
@@ -33,13 +33,13 @@ masked-told one two three (suc (suc (suc (suc (suc (suc (suc (suc n)))))))) s =
     let all : 7 < mask = omega arith in
     rw (
       lt-ltb 7 mask all,
-      other mask 0 (omega (arith, all)),
-      other mask 1 (omega (arith, all)),
-      other mask 2 (omega (arith, all)),
-      other mask 3 (omega (arith, all)),
-      other mask 4 (omega (arith, all)),
-      other mask 5 (omega (arith, all)),
-      other mask 6 (omega (arith, all)),
+      other-mask mask 0 (omega (arith, all)),
+      other-mask mask 1 (omega (arith, all)),
+      other-mask mask 2 (omega (arith, all)),
+      other-mask mask 3 (omega (arith, all)),
+      other-mask mask 4 (omega (arith, all)),
+      other-mask mask 5 (omega (arith, all)),
+      other-mask mask 6 (omega (arith, all)),
     ) refl
 
 -- one voice after another, first into the filter, then beside it

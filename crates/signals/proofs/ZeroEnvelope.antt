@@ -8,17 +8,14 @@ use Prim.Native.Nat.{ℕ, _/_, _%_}
 use lib.Dec.{T, eqb, ltb}
 use lib.Ieee.{Float, binary32, eq, fits}
 use lib.Ieee.Bits.{ofBits-fits}
-use lib.Ieee.Fits.{add-fits, mul-fits}
-use Rattle.floats.specs.Arithmetic.{_⊕_, _⊖_, _⊗_, f32}
+use Rattle.floats.specs.Arithmetic.{_⊕_, f32}
 use Rattle.floats.proofs.Values.{equal-zero}
-use Rattle.floats.proofs.Signs.{Plus, bits-zero, bits-plus, add-plus, add-nothing}
+use Rattle.floats.proofs.Signs.{Summed, zero-summed, add-summed, summed-nothing, bits-zero}
 use Rattle.mixing.specs.declared.MixingTopology.{MixingTopology}
 use Rattle.mixing.specs.Topology.{topologyOf}
 use Rattle.voice.specs.declared.VoiceSignal.{VoiceSignal}
-use Rattle.voice.specs.Voice.{voiceAt}
-use Rattle.voice.specs.Levels.{filterVoiceSignalOf, sourceRestingOf}
+use Rattle.voice.specs.Levels.{sourceRestingOf}
 use Rattle.signals.specs.declared.RoutedSignals.{RoutedSignals}
-use Rattle.signals.specs.declared.Contribution.{Contribution}
 use Rattle.signals.specs.declared.Voices.{Voices}
 use Rattle.signals.specs.declared.SawBlends.{SawBlends}
 use Rattle.signals.specs.declared.ExternalInputState.{ExternalInputState}
@@ -26,6 +23,7 @@ use Rattle.signals.specs.Signals.{silentOf, withFilter, withBypass, filt
 use Rattle.signals.specs.Lent.{voicesOf, externalOf, blendsOf}
 use Rattle.signals.specs.Collecting.{signalsOf}
 use Rattle.signals.proofs.Masks.{masked-told}
+use Rattle.signals.proofs.Summed.{energy-fits, Envelopes, lent-envelopes}
 
 -- ---- beside the filter
 
@@ -43,39 +41,20 @@ quietFilterVoiceOf s v resting =
     (withFilter s (s .«filter_input_sum» ⊕ resting) (s .«filter_source_energy») (s .«filter_input_activity»))
     (addFilterVoiceOf s v resting)
 
--- neither the energy nor the activity is -0.0
-record Summed (s : RoutedSignals) : Type 0 where
-  energy-fits : T (fits binary32 (s .«filter_source_energy»))
-  energy-plus : Plus (s .«filter_source_energy»)
-  activity-fits : T (fits binary32 (s .«filter_input_activity»))
-  activity-plus : Plus (s .«filter_input_activity»)
+-- energy and activity are summed up from 0.0
+record Filtered (s : RoutedSignals) : Type 0 where
+  energy : Summed binary32 (s .«filter_source_energy»)
+  activity : Summed binary32 (s .«filter_input_activity»)
 
-silent-summed : Summed silentOf
-silent-summed = record { energy-fits = ofBits-fits binary32 0; energy-plus = bits-plus binary32; activity-fits = ofBits-fits binary32 0; activity-plus = bits-plus binary32 }
+silent-filtered : Filtered silentOf
+silent-filtered = record { energy = zero-summed binary32; activity = zero-summed binary32 }
 
 module _ (v : VoiceSignal) (resting : Float) (h : T (fits binary32 (v .envelope))) where
-  energy-held : T (fits binary32 (filterVoiceContributionOf v resting .energy))
-  unfolding filterVoiceContributionOf
-  energy-held = go (eq (v .envelope) (f32 0))
-    where
-      deviation : Float
-      deviation = filterVoiceSignalOf v ⊖ resting
-
-      go : (b : Bool) → T (fits binary32 (cond {A = Contribution} b (record { source = resting; energy = f32 0 }) (record { source = filterVoiceSignalOf v; energy = deviation ⊗ deviation }) .energy))
-      go true = ofBits-fits binary32 0
-      go false = mul-fits binary32 deviation deviation
-
-  voice-summed : {s : RoutedSignals} → Summed s → Summed (addFilterVoiceOf s v resting)
+  voice-filtered : {s : RoutedSignals} → Filtered s → Filtered (addFilterVoiceOf s v resting)
   unfolding addFilterVoiceOf
-  voice-summed {s} k =
-      record {
-        energy-fits = add-fits binary32 _ _;
-        energy-plus = add-plus binary32 _ _ (k .energy-fits) energy-held (k .energy-plus);
-        activity-fits = add-fits binary32 _ _;
-        activity-plus = add-plus binary32 _ _ (k .activity-fits) h (k .activity-plus);
-      }
+  voice-filtered k = record { energy = add-summed binary32 _ (k .energy) (energy-fits v resting); activity = add-summed binary32 _ (k .activity) h }
 
-  filter-at-zero : {s : RoutedSignals} → Summed s → addFilterVoiceOf s v resting ≡ quietFilterVoiceOf s v resting
+  filter-at-zero : {s : RoutedSignals} → Filtered s → addFilterVoiceOf s v resting ≡ quietFilterVoiceOf s v resting
   unfolding addFilterVoiceOf filterVoiceContributionOf
   filter-at-zero {s} k = go (eq (v .envelope) (f32 0)) refl
     where
@@ -83,27 +62,21 @@ module _ (v : VoiceSignal) (resting : Float) (h : T (fits binary32 (v .envelope)
       go true e =
           rw (
             e,
-            add-nothing binary32 (s .«filter_source_energy») (f32 0) (k .energy-fits) (ofBits-fits binary32 0) (k .energy-plus) (bits-zero binary32),
-            add-nothing binary32 (s .«filter_input_activity») (v .envelope) (k .activity-fits) h (k .activity-plus) (equal-zero binary32 (v .envelope) e),
+            summed-nothing binary32 (k .energy) (ofBits-fits binary32 0) (bits-zero binary32),
+            summed-nothing binary32 (k .activity) h (equal-zero binary32 (v .envelope) e),
           )
       go false e = rw e
 
   -- where the voice is routed so, and where it is not
-  step : (b : Bool) {s s' : RoutedSignals} → Summed s → s ≡ s' → cond b (addFilterVoiceOf s v resting) s ≡ cond b (quietFilterVoiceOf s' v resting) s'
+  step : (b : Bool) {s s' : RoutedSignals} → Filtered s → s ≡ s' → cond b (addFilterVoiceOf s v resting) s ≡ cond b (quietFilterVoiceOf s' v resting) s'
   step true k e = filter-at-zero k ∙ ap (λ (s : RoutedSignals). quietFilterVoiceOf s v resting) e
   step false k e = e
 
-  kept : (b : Bool) {s : RoutedSignals} → Summed s → Summed (cond b (addFilterVoiceOf s v resting) s)
-  kept true k = voice-summed k
+  kept : (b : Bool) {s : RoutedSignals} → Filtered s → Filtered (cond b (addFilterVoiceOf s v resting) s)
+  kept true k = voice-filtered k
   kept false k = k
 
 -- ---- all of them
-
--- each envelope is an f32, as every float of the code is
-pub record Held (voices : Voices) : Type 0 where
-  pub one : T (fits binary32 (voices .one .envelope))
-  pub two : T (fits binary32 (voices .two .envelope))
-  pub three : T (fits binary32 (voices .three .envelope))
 
 abbrev pub quietFilterVoicesOf : ℕ → Voices → Float → RoutedSignals → RoutedSignals
 quietFilterVoicesOf mask voices resting s =
@@ -113,14 +86,14 @@ quietFilterVoicesOf mask voices resting s =
     (λ (s : RoutedSignals). quietFilterVoiceOf s (voices .three) resting)
     mask s
 
-voices-at-zero : (mask : ℕ) (voices : Voices) (resting : Float) → Held voices → addFilterVoicesOf mask voices resting silentOf ≡ quietFilterVoicesOf mask voices resting silentOf
+voices-at-zero : (mask : ℕ) (voices : Voices) (resting : Float) → Envelopes voices → addFilterVoicesOf mask voices resting silentOf ≡ quietFilterVoicesOf mask voices resting silentOf
 voices-at-zero mask voices resting h =
     let b1 = ltb 7 mask || eqb (mask % 2) 1 in
     let b2 = ltb 7 mask || eqb (mask / 2 % 2) 1 in
     let b3 = ltb 7 mask || eqb (mask / 4 % 2) 1 in
-    let k1 = kept (voices .one) resting (h .one) b1 silent-summed in
+    let k1 = kept (voices .one) resting (h .one) b1 silent-filtered in
     let k2 = kept (voices .two) resting (h .two) b2 k1 in
-    let p1 = step (voices .one) resting (h .one) b1 silent-summed refl in
+    let p1 = step (voices .one) resting (h .one) b1 silent-filtered refl in
     let p2 = step (voices .two) resting (h .two) b2 k1 p1 in
     let p3 = step (voices .three) resting (h .three) b3 k2 p2 in
     sym (masked-told _ _ _ mask silentOf) ∙ p3 ∙ masked-told _ _ _ mask silentOf
@@ -132,19 +105,15 @@ quietCollectOf t voices blends x resting =
     (addBypassVoicesOf (t .«bypass_internal_mask») voices blends resting (quietFilterVoicesOf (t .«filter_internal_mask») voices resting silentOf))
 
 -- is the Rust's `collect`.
-pub zero-envelope : (t : MixingTopology) (voices : Voices) (blends : SawBlends) (x : ExternalInputState) (resting : Float) → Held voices
+pub zero-envelope : (t : MixingTopology) (voices : Voices) (blends : SawBlends) (x : ExternalInputState) (resting : Float) → Envelopes voices
     → collectOf t voices blends x resting ≡ quietCollectOf t voices blends x resting
 unfolding collectOf addVoicesOf
 zero-envelope t voices blends x resting h =
     ap (λ (s : RoutedSignals). addExternalOf t x resting (addBypassVoicesOf (t .«bypass_internal_mask») voices blends resting s))
     (voices-at-zero (t .«filter_internal_mask») voices resting h)
 
-lent-held : (s : List ℕ) → Held (voicesOf s)
-unfolding voicesOf voiceAt
-lent-held s = record { one = ofBits-fits binary32 _; two = ofBits-fits binary32 _; three = ofBits-fits binary32 _ }
-
 -- Of the sums of any lent bytes.
 pub zero-envelope-lent : (routing mode : ℕ) (voices numbers : List ℕ)
     → signalsOf routing mode voices numbers ≡ quietCollectOf (topologyOf routing mode) (voicesOf voices) (blendsOf numbers) (externalOf numbers) sourceRestingOf
 unfolding signalsOf
-zero-envelope-lent routing mode voices numbers = zero-envelope (topologyOf routing mode) (voicesOf voices) (blendsOf numbers) (externalOf numbers) sourceRestingOf (lent-held voices)
+zero-envelope-lent routing mode voices numbers = zero-envelope (topologyOf routing mode) (voicesOf voices) (blendsOf numbers) (externalOf numbers) sourceRestingOf (lent-envelopes voices)

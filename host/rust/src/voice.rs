@@ -17,9 +17,9 @@ pub struct Voice {
     pub envelope: f32,
     /// The selected waveforms, bits 4 to 7 of the voice's control register: 1 triangle, 2 saw, 4 pulse, 8 noise, and their sums.
     pub selection: u8,
-    /// More than one waveform is selected.
+    /// They are a combination of waveforms.
     pub combined: bool,
-    /// The oscillator stands still.
+    /// The waveform DAC is frozen: its level stands still.
     pub frozen: bool,
 }
 
