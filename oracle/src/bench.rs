@@ -114,11 +114,7 @@ fn sounding(routing: u8, mode: u8, random: &mut Random) -> Sources {
 /// The Rust's side of a call on the same bytes: its topology of the nibbles, its voices, its sums.
 #[inline(never)]
 fn collect(routing: u8, mode: u8, voices: &[u8; 36], numbers: &[u8; 24], sums: &mut [u8; 32]) {
-    let float = |bytes: &[u8], at: usize| f32::from_le_bytes(bytes[at..at + 4].try_into().unwrap());
-    let voices =
-        [0, 12, 24].map(|at| voice(float(voices, at), float(voices, at + 4), voices[at + 8], [voices[at + 9] == 1, voices[at + 10] == 1]));
-    let numbers = [0, 4, 8, 12, 16, 20].map(|at| float(numbers, at));
-    let theirs = Sources { routing, mode, voices, numbers }.sums();
+    let theirs = Sources::read(routing, mode, voices, numbers).sums();
     sums.copy_from_slice(theirs.map(f32::to_le_bytes).as_flattened());
 }
 

@@ -101,7 +101,7 @@ fn every_voice(seen: &mut Seen) {
 fn alone(seen: &mut Seen) {
     for (index, sources) in not_finite_alone() {
         let sums = same_sums(seen, &sources);
-        seen.tally.same([0, 1, 2, 3, 4, 5, 6, 7].map(|sum: usize| sums[sum].is_finite()), [0, 1, 2, 3, 4, 5, 6, 7].map(|sum| sum != index));
+        seen.tally.same(sums.map(f32::is_finite), std::array::from_fn(|sum| sum != index));
     }
 }
 
@@ -113,8 +113,7 @@ fn at_random(seen: &mut Seen) {
     }
 }
 
-/// A routed voice at envelope 0 of either sign: beside the Rust; and in the Rust its sum has the resting level in its place, and all others are those of the
-/// topology without it.
+/// A routed voice at envelope 0 of either sign: beside the Rust; and in the Rust all sums but its own are those of the topology without it.
 fn at_envelope_zero(seen: &mut Seen) {
     let mut random = Random(132);
     for _ in 0..500_000 {
@@ -179,11 +178,8 @@ fn damaged(seen: &mut Seen) {
         let answer = proved::collect(routing, mode, &voices, &numbers, &mut sums);
         let (number, left) = match refused(routing, mode, &voices, &numbers, room) {
             0 => {
-                let float = |bytes: &[u8]| f32::from_le_bytes(bytes.try_into().expect("four bytes"));
-                let read = |v: &[u8]| voice(float(&v[..4]), float(&v[4..8]), v[8], [v[9] == 1, v[10] == 1]);
-                let voices = [0, 12, 24].map(|at| read(&voices[at..at + 12]));
-                let numbers = [0, 4, 8, 12, 16, 20].map(|at| float(&numbers[at..at + 4]));
-                let (number, left) = left_by(Sources { routing, mode, voices, numbers }.sums());
+                let lent = (voices[..].try_into().expect("36 bytes"), numbers[..].try_into().expect("24 bytes"));
+                let (number, left) = left_by(Sources::read(routing, mode, lent.0, lent.1).sums());
                 (number, left.to_vec())
             }
             number => (alone_of(number), before),

@@ -43,6 +43,14 @@ impl Sources {
         Sources { routing: (bits >> 24) as u8 % 16, mode: (bits >> 32) as u8 % 16, voices, numbers }
     }
 
+    /// What lent bytes stand for.
+    pub fn read(routing: u8, mode: u8, voices: &[u8; 36], numbers: &[u8; 24]) -> Self {
+        let float = |bytes: &[u8], at: usize| f32::from_le_bytes([bytes[at], bytes[at + 1], bytes[at + 2], bytes[at + 3]]);
+        let flags = |at: usize| [voices[at] == 1, voices[at + 1] == 1];
+        let voices = [0, 12, 24].map(|at| voice(float(voices, at), float(voices, at + 4), voices[at + 8], flags(at + 9)));
+        Sources { routing, mode, voices, numbers: [0, 4, 8, 12, 16, 20].map(|at| float(numbers, at)) }
+    }
+
     pub fn voice_bytes(&self) -> [u8; 36] {
         let bytes = self.voices.map(|voice| {
             let [a, b, c, d] = voice.waveform.to_le_bytes();

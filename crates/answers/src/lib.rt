@@ -21,7 +21,7 @@ pub enum Answer {
     CurvesLength,
     // The input sum or the source energy is not finite. The state is left as it was.
     InputNotFinite,
-    // A number of the state, an output, a control or a direct call's result would not be finite. The state is left as it was.
+    // A number of the state, an output, a control, a direct call's result or a sum of voices would not be finite. The state is left as it was.
     Domain,
     // The script's length, offset or count, an event's kind or its zero bytes are wrong. Everything is left as it was.
     Script,

@@ -31,7 +31,7 @@ pub enum Refusal {
     CurvesLength,
     /// 5: a sample's input sum or source energy is not finite.
     InputNotFinite,
-    /// 6: a number of the state, an output or a control would not be finite.
+    /// 6: a number of the state, an output, a control or a sum would not be finite.
     Domain,
     /// 7: the bytes are no script.
     Script,
