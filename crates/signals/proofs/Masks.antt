@@ -1,6 +1,6 @@
 -- The `match` on a mask is three tests of a bit, one after another; a mask above 7 is all three.
 use mathlib.Core.Path.{_≡_, refl}
-use mathlib.Core.Bool.{false, _||_, cond}
+use mathlib.Core.Bool.{Bool, true, false, _||_, cond}
 use Prim.Native.Nat.{ℕ, zero, suc, _/_, _%_, _<_}
 use native.Mathlib.Omega.{arith}
 use borrow.Author.Tests.{lt-ltb, ne-eqb}
@@ -57,3 +57,35 @@ unfolding addVoicesOf
 voices-told t voices blends resting s {f1} {f2} {f3} {b1} {b2} p1 p2 p3 q1 q2 q3 =
     let filtered : f3 ≡ addFilterVoicesOf (t .«filter_internal_mask») voices resting s = rw (p3, p2, p1) (masked-told _ _ _ (t .«filter_internal_mask») s) in
     rw (q3, q2, q1, filtered) (masked-told _ _ _ (t .«bypass_internal_mask») _)
+
+-- What three steps keep, between two sums that are taken side by side, the `match` keeps.
+module _ (R : RoutedSignals → RoutedSignals → Type 0) where
+  either : (b : Bool) {x x' y y' : RoutedSignals} → R x x' → R y y' → R (cond b x y) (cond b x' y')
+  either true p q = p
+  either false p q = q
+
+  pub masked-keeps : {one two three one' two' three' : RoutedSignals → RoutedSignals} (mask : ℕ)
+      → ((s s' : RoutedSignals) → R s s' → R (one s) (one' s'))
+      → ((s s' : RoutedSignals) → R s s' → R (two s) (two' s'))
+      → ((s s' : RoutedSignals) → R s s' → R (three s) (three' s'))
+      → (s s' : RoutedSignals) → R s s' → R (maskedOf one two three mask s) (maskedOf one' two' three' mask s')
+  unfolding maskedOf
+  masked-keeps mask p q r s s' k =
+      either (eqb mask 0) k
+      (either (eqb mask 1) (p _ _ k)
+      (either (eqb mask 2) (q _ _ k)
+      (either (eqb mask 3) (q _ _ (p _ _ k))
+      (either (eqb mask 4) (r _ _ k)
+      (either (eqb mask 5) (r _ _ (p _ _ k))
+      (either (eqb mask 6) (r _ _ (q _ _ k))
+      (r _ _ (q _ _ (p _ _ k)))))))))
+
+-- The same of one sum alone.
+pub masked-each : (P : RoutedSignals → Type 0) {one two three : RoutedSignals → RoutedSignals} (mask : ℕ)
+    → ((s : RoutedSignals) → P s → P (one s))
+    → ((s : RoutedSignals) → P s → P (two s))
+    → ((s : RoutedSignals) → P s → P (three s))
+    → (s : RoutedSignals) → P s → P (maskedOf one two three mask s)
+masked-each P {one} {two} {three} mask p q r s k =
+    masked-keeps (λ (s s' : RoutedSignals). P s) {one' = one} {two' = two} {three' = three} mask
+    (λ (s s' : RoutedSignals). p s) (λ (s s' : RoutedSignals). q s) (λ (s s' : RoutedSignals). r s) s s k

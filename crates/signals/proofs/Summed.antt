@@ -1,9 +1,8 @@
 -- No sum is ever -0.0: each starts from 0.0, and what is added to it is an f32 (`lent-summed`). Assumes nothing.
-use mathlib.Core.Path.{subst}
-use mathlib.Core.Bool.{Bool, true, false, _||_, cond}
+use mathlib.Core.Bool.{Bool, true, false, cond}
 use mathlib.Core.List.{List}
-use Prim.Native.Nat.{ℕ, zero, suc, _/_, _%_}
-use lib.Dec.{T, eqb, ltb}
+use Prim.Native.Nat.{ℕ, zero, suc}
+use lib.Dec.{T, eqb}
 use lib.ListN.{getD}
 use lib.Ieee.{Float, nan, inf, fin, binary32, eq, lt, fits}
 use lib.Ieee.Bits.{ofBits-fits}
@@ -26,7 +25,7 @@ use Rattle.signals.specs.declared.ExternalInputState.{ExternalInputState
 use Rattle.signals.specs.Signals as S
 use Rattle.signals.specs.Lent.{voicesOf, externalOf, blendsOf}
 use Rattle.signals.specs.Collecting.{signalsOf}
-use Rattle.signals.proofs.Masks.{masked-told}
+use Rattle.signals.proofs.Masks.{masked-each}
 
 -- ---- what is added
 
@@ -152,17 +151,6 @@ module _ (x : ExternalInputState) where
 
 -- ---- all of them
 
--- voices whose bit is set in a mask, one after another
-masked-summed : {one two three : RoutedSignals → RoutedSignals} (mask : ℕ) {s : RoutedSignals}
-    → ((s : RoutedSignals) → AllSummed s → AllSummed (one s))
-    → ((s : RoutedSignals) → AllSummed s → AllSummed (two s))
-    → ((s : RoutedSignals) → AllSummed s → AllSummed (three s))
-    → AllSummed s → AllSummed (S.maskedOf one two three mask s)
-masked-summed {one} {two} {three} mask {s} p q r k =
-    let a = if-summed (ltb 7 mask || eqb (mask % 2) 1) (p _ k) k in
-    let b = if-summed (ltb 7 mask || eqb (mask / 2 % 2) 1) (q _ a) a in
-    subst AllSummed (masked-told one two three mask s) (if-summed (ltb 7 mask || eqb (mask / 4 % 2) 1) (r _ b) b)
-
 -- every number that is added is an f32, as every float of the code is
 pub record Envelopes (voices : Voices) : Type 0 where
   pub one : T (fits binary32 (voices .one .envelope))
@@ -179,18 +167,18 @@ pub collect-summed : (t : MixingTopology) (voices : Voices) (blends : SawBlends)
 unfolding S.collectOf S.addVoicesOf S.addExternalOf
 collect-summed t voices blends x resting h l r =
     let filtered =
-    masked-summed (t .«filter_internal_mask»)
+    masked-each AllSummed (t .«filter_internal_mask»)
     (filter-voice-summed (voices .one) resting (h .one) r)
     (filter-voice-summed (voices .two) resting (h .two) r)
     (filter-voice-summed (voices .three) resting (h .three) r)
-    silent-summed
+    S.silentOf silent-summed
     in
     let voiced =
-    masked-summed (t .«bypass_internal_mask»)
+    masked-each AllSummed (t .«bypass_internal_mask»)
     (bypass-voice-summed (voices .one) resting (h .one) r (blends .one))
     (bypass-voice-summed (voices .two) resting (h .two) r (blends .two))
     (bypass-voice-summed (voices .three) resting (h .three) r (blends .three))
-    filtered
+    _ filtered
     in
     let routed = if-summed (getD (t .«filter_membership») 3 false) (filter-external-summed x resting (l .filter) voiced) voiced in
     if-summed (getD (t .«bypass_membership») 3 false) (bypass-external-summed x (l .mixer) (l .raw) routed) routed

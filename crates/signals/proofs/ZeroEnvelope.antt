@@ -1,11 +1,11 @@
 -- A routed voice at envelope 0, of either sign, adds the resting level to its sum and changes no bit of any other. Beside the filter the Rust has a way of its own for
 -- it (`beside-at-zero`). Into the filter it adds an energy of 0.0 and the envelope too: neither sum is ever -0.0, so that this changes no bit (`filter-at-zero`).
 -- `zero-envelope` says it of the whole of `collect`, and `zero-envelope-lent` of any lent bytes. Assumes nothing.
-use mathlib.Core.Path.{_≡_, refl, sym, ap, _∙_}
-use mathlib.Core.Bool.{Bool, true, false, _||_, cond}
+use mathlib.Core.Path.{_≡_, refl, ap, _∙_}
+use mathlib.Core.Bool.{Bool, true, false, cond}
 use mathlib.Core.List.{List}
-use Prim.Native.Nat.{ℕ, _/_, _%_}
-use lib.Dec.{T, eqb, ltb}
+use Prim.Native.Nat.{ℕ}
+use lib.Dec.{T}
 use lib.Ieee.{Float, binary32, eq, fits}
 use lib.Ieee.Bits.{ofBits-fits}
 use Rattle.floats.specs.Arithmetic.{_⊕_, f32}
@@ -22,7 +22,7 @@ use Rattle.signals.specs.declared.ExternalInputState.{ExternalInputState
 use Rattle.signals.specs.Signals.{silentOf, withFilter, withBypass, filterVoiceContributionOf, addFilterVoiceOf, addBypassVoiceOf, maskedOf, addFilterVoicesOf, addBypassVoicesOf, addVoicesOf, addExternalOf, collectOf}
 use Rattle.signals.specs.Lent.{voicesOf, externalOf, blendsOf}
 use Rattle.signals.specs.Collecting.{signalsOf}
-use Rattle.signals.proofs.Masks.{masked-told}
+use Rattle.signals.proofs.Masks.{masked-keeps}
 use Rattle.signals.proofs.Summed.{energy-fits, Envelopes, lent-envelopes}
 
 -- ---- beside the filter
@@ -67,14 +67,9 @@ module _ (v : VoiceSignal) (resting : Float) (h : T (fits binary32 (v .envelope)
           )
       go false e = rw e
 
-  -- where the voice is routed so, and where it is not
-  step : (b : Bool) {s s' : RoutedSignals} → Filtered s → s ≡ s' → cond b (addFilterVoiceOf s v resting) s ≡ cond b (quietFilterVoiceOf s' v resting) s'
-  step true k e = filter-at-zero k ∙ ap (λ (s : RoutedSignals). quietFilterVoiceOf s v resting) e
-  step false k e = e
-
-  kept : (b : Bool) {s : RoutedSignals} → Filtered s → Filtered (cond b (addFilterVoiceOf s v resting) s)
-  kept true k = voice-filtered k
-  kept false k = k
+  -- side by side: the sums so far are the same
+  side-by-side : (s s' : RoutedSignals) → Filtered s × (s ≡ s') → Filtered (addFilterVoiceOf s v resting) × (addFilterVoiceOf s v resting ≡ quietFilterVoiceOf s' v resting)
+  side-by-side s s' k = (voice-filtered (k .0), filter-at-zero (k .0) ∙ ap (λ (s : RoutedSignals). quietFilterVoiceOf s v resting) (k .1))
 
 -- ---- all of them
 
@@ -88,15 +83,10 @@ quietFilterVoicesOf mask voices resting s =
 
 voices-at-zero : (mask : ℕ) (voices : Voices) (resting : Float) → Envelopes voices → addFilterVoicesOf mask voices resting silentOf ≡ quietFilterVoicesOf mask voices resting silentOf
 voices-at-zero mask voices resting h =
-    let b1 = ltb 7 mask || eqb (mask % 2) 1 in
-    let b2 = ltb 7 mask || eqb (mask / 2 % 2) 1 in
-    let b3 = ltb 7 mask || eqb (mask / 4 % 2) 1 in
-    let k1 = kept (voices .one) resting (h .one) b1 silent-filtered in
-    let k2 = kept (voices .two) resting (h .two) b2 k1 in
-    let p1 = step (voices .one) resting (h .one) b1 silent-filtered refl in
-    let p2 = step (voices .two) resting (h .two) b2 k1 p1 in
-    let p3 = step (voices .three) resting (h .three) b3 k2 p2 in
-    sym (masked-told _ _ _ mask silentOf) ∙ p3 ∙ masked-told _ _ _ mask silentOf
+    masked-keeps (λ (s s' : RoutedSignals). Filtered s × (s ≡ s')) mask
+    (side-by-side (voices .one) resting (h .one)) (side-by-side (voices .two) resting (h .two)) (side-by-side (voices .three) resting (h .three))
+    silentOf silentOf (silent-filtered, refl)
+    .1
 
 -- `collect` with such a way for envelope 0
 abbrev pub quietCollectOf : MixingTopology → Voices → SawBlends → ExternalInputState → Float → RoutedSignals

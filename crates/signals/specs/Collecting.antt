@@ -4,12 +4,11 @@ use mathlib.Core.Bool.{Bool, _&&_, cond}
 use mathlib.Core.List.{List, _++_}
 use lib.Dec.{leb, eqb}
 use lib.ListN.{length}
-use lib.Ieee.{binary32, toBits}
 use lib.Ieee.Scale.{finite}
 use Rattle.answers.specs.declared.Answer.{Answer}
 use Rattle.answers.specs.declared.Answer.the-variants.{Argument, Sources, Domain}
 use Rattle.answers.specs.Answers.{isDoneOf, firstOf, unlessOf}
-use Rattle.wire.specs.Wire.{rowBytes}
+use Rattle.wire.specs.Wire.{floatBytes}
 use Rattle.mixing.specs.Topology.{topologyOf}
 use Rattle.voice.specs.Levels.{sourceRestingOf}
 use Rattle.signals.specs.declared.RoutedSignals.{RoutedSignals}
@@ -29,8 +28,14 @@ finiteSignalsOf s =
 -- Their 32 bytes, in the order of the fields.
 unfoldable pub signalBytes : RoutedSignals → List ℕ
 signalBytes s =
-    rowBytes (toBits binary32 (s .«filter_input_sum»)) (toBits binary32 (s .«filter_source_energy»)) (toBits binary32 (s .«filter_input_activity»)) (toBits binary32 (s .«bypass_input_sum»))
-    ++ rowBytes (toBits binary32 (s .«bypass_envelope_activity»)) (toBits binary32 (s .«pure_bypass_envelope_activity»)) (toBits binary32 (s .«pure_bypass_attack_drive»)) (toBits binary32 (s .«pure_pulse_envelope_activity»))
+    floatBytes (s .«filter_input_sum»)
+    ++ floatBytes (s .«filter_source_energy»)
+    ++ floatBytes (s .«filter_input_activity»)
+    ++ floatBytes (s .«bypass_input_sum»)
+    ++ floatBytes (s .«bypass_envelope_activity»)
+    ++ floatBytes (s .«pure_bypass_envelope_activity»)
+    ++ floatBytes (s .«pure_bypass_attack_drive»)
+    ++ floatBytes (s .«pure_pulse_envelope_activity»)
 
 -- 10, then 11: every voice and every number, also one that this routing does not read.
 unfoldable pub judgeCollectOf : ℕ → ℕ → List ℕ → List ℕ → ℕ → Answer
