@@ -1,10 +1,10 @@
 /* The filter of the MOS 6581: bytes in, bytes out. Numbers in the bytes are little-endian, and an f32 is its IEEE 754 bits. In the
  * repository docs/FORMATS.md has every buffer byte by byte, docs/ENGINE.md what an engine asks.
  *
- * A buffer is a pointer and its length in bytes; it needs no alignment. Building writes `curves`; a run writes `state` and `output`;
- * collecting writes `sums`. All else is only read. A written buffer must not overlap another one, and while a call runs nothing else may write what is lent to it.
- * Every call answers by value. None keeps a pointer, allocates, locks or has static data. The thread's float mode must be the usual one:
- * round to nearest even, no flush to zero. */
+ * A buffer is a pointer and its length in bytes; it needs no alignment. Building writes `curves`; widening writes `wide`; a run writes
+ * `state` and `output`; collecting writes `sums`. All else is only read. A written buffer must not overlap another one, and while a call runs
+ * nothing else may write what is lent to it. Every call answers by value. None keeps a pointer, allocates, locks or has static data. The
+ * thread's float mode must be the usual one: round to nearest even, no flush to zero. */
 #ifndef SID_FILTER_H
 #define SID_FILTER_H
 
@@ -16,7 +16,7 @@ extern "C" {
 #endif
 
 /* The version of this library; CHANGELOG.md says what each one changed. */
-#define SID_FILTER_VERSION "0.6.0"
+#define SID_FILTER_VERSION "0.7.0"
 
 /* Units.
  *
@@ -40,7 +40,10 @@ extern "C" {
  * -0.112, -0.136, and selected moves with it.
  *
  * The volume and voice 3 off (register 24, bits 0 to 3 and 7) change no sample: they act behind the filter, in the mixer and the volume
- * DAC, which sid_filter_mixer and sid_filter_volume ask by themselves. */
+ * DAC, which sid_filter_mixer and sid_filter_volume ask by themselves.
+ *
+ * A charge is in the units of the emulator's output: a step of the volume from 15 to 0 charges the output node by 3152.0623 and 2777.7222,
+ * one from 0 to 15 by as much below 0. The charges stand in the state, and no sample reads them. */
 #define SID_FILTER_CLOCK_HZ 985248
 #define SID_FILTER_VOICE_REST 0.45085025f
 #define SID_FILTER_VOICE_SWING 0.15015182f
@@ -82,14 +85,18 @@ enum {
     SID_FILTER_ARGUMENT = 10,
     /* The voices or the numbers beside them have a wrong length, a number of them is not finite, a flag is above 1, a voice's last byte is
      * not zero, or a selection is above 15. */
-    SID_FILTER_SOURCES = 11
+    SID_FILTER_SOURCES = 11,
+    /* The decays are not six numbers from 0 to 1. */
+    SID_FILTER_DECAYS = 12
 };
 
-/* The lengths in bytes of a bundle, of a curve buffer, of a state block and of a script's header, event and sample; the most events; the
- * lengths of a voice, of the numbers beside three voices and of their sums. */
+/* The lengths in bytes of a bundle, of a curve buffer, of a state block, of a state block without charges, of the decays, and of a script's
+ * header, event and sample; the most events; the lengths of a voice, of the numbers beside three voices and of their sums. */
 #define SID_FILTER_BUNDLE_BYTES 6127736
 #define SID_FILTER_CURVES_BYTES 254076
-#define SID_FILTER_STATE_BYTES 24
+#define SID_FILTER_STATE_BYTES 68
+#define SID_FILTER_NARROW_STATE_BYTES 24
+#define SID_FILTER_DECAYS_BYTES 24
 #define SID_FILTER_SCRIPT_HEADER_BYTES 8
 #define SID_FILTER_EVENT_BYTES 12
 #define SID_FILTER_SAMPLE_BYTES 16
@@ -97,6 +104,28 @@ enum {
 #define SID_FILTER_VOICE_BYTES 12
 #define SID_FILTER_NUMBERS_BYTES 24
 #define SID_FILTER_SUMS_BYTES 32
+
+/* A state block, all that a filter remembers. 68 zero bytes are the starting value.
+ *
+ *    0  u16 cutoff, i16 displacement, u16 write base; a byte each: pending, resonance, routing, mode, volume, zero
+ *   12  three f32: band, low, source energy
+ *   24  five f32, the charges: volume fast and slow, bypass attack, pulse gate fast and slow
+ *   44  two f32: the conductance code of the volume; the activity beside the filter in the clock before
+ *   52  three f32, the blends of voices 1 to 3: how far each one's saw is bent at the mixer
+ *   64  a byte, pulse pending: the gate of a pulse has risen; three zero bytes
+ *
+ * It is valid where it is 68 bytes long, cutoff and write base are 0 to 2,047, the displacement -57 to 57, pending and pulse pending 0 or 1,
+ * the nibbles 0 to 15, the four zero bytes zero, and all floats finite.
+ *
+ * A sample changes the floats at 12; a write its registers, and a mode write the volume's two charges and the conductance code too; a reset
+ * gives the starting value. Nothing else changes in a run. A caller writes two places: 1 at 64 when the gate of a pulse rises, and 0.0 to the
+ * blend of a voice when the gate of its saw rises. */
+
+/* The decays: six f32 from 0 to 1. The first five say what a clock leaves of each charge, in the charges' order; the sixth is the part of its
+ * way that a blend goes in a clock. A run judges them, and no event reads them. These are the emulator's, as bytes. */
+#define SID_FILTER_EMULATOR_DECAYS \
+    { 0xc1, 0xdb, 0x7f, 0x3f, 0x31, 0xff, 0x7f, 0x3f, 0x18, 0xf9, 0x7f, 0x3f, \
+      0x93, 0xfb, 0x7f, 0x3f, 0x59, 0xff, 0x7f, 0x3f, 0x00, 0x80, 0xaa, 0x37 }
 
 /* The kinds of an event. An event has a kind (byte 0), a value (byte 1), two zero bytes, an input sum (f32, byte 4) and a source energy
  * (f32, byte 8). Kinds 0 to 3 use the value, which is what is written to the register; a sample uses the two floats; what a kind does not
@@ -117,16 +146,19 @@ sid_filter_answer sid_filter_open(const uint8_t *bundle, size_t bundle_len);
  * in order (3). Where nothing is refused all 254,076 bytes are written, else none. */
 sid_filter_answer sid_filter_build_curves(const uint8_t *bundle, size_t bundle_len, uint8_t *curves, size_t curves_len);
 
+/* Turns a block of 24 bytes, the first 24 of the 68, into a whole one: zeros behind them, but for the conductance code of its volume. Blocks
+ * that versions before 0.7.0 kept are such. Refused with 10, `wide` then as it was: a wrong length of either, or an invalid field. */
+sid_filter_answer sid_filter_widen_state(const uint8_t *block, size_t block_len, uint8_t *wide, size_t wide_len);
+
 /* Runs a script from the state in `state`, and writes for each sample event, one after another from the start of `output`, high, band, low
- * and selected (f32 each). A state of 24 zero bytes is the starting value. A script is a count of events and the offset 8 (u32 each), then
- * the events.
+ * and selected (f32 each). A script is a count of events and the offset 8 (u32 each), then the events.
  *
  * Refused, in this order:
  *   1  the bundle's length
  *   2  its header; place: the byte of the first difference
  *   4  the curve buffer's length
- *  10  the state block: not 24 bytes, a cutoff or write base above 2,047, a displacement outside -57 to 57, pending above 1, a nibble
- *      above 15, the zero byte not zero, a float not finite
+ *  10  the state block is invalid
+ *  12  the decays: not 24 bytes, or one of the six is not from 0 to 1 (-0.0 is, a NaN is not)
  *   7  the script: a length other than 8 + 12 x count, a count above 65,536, another offset, a kind above 5 or a byte that must be zero
  *   8  the output is shorter than 16 bytes a sample event
  *   3  an entry that the controls read at the start is unusable: buffer and place
@@ -134,13 +166,14 @@ sid_filter_answer sid_filter_build_curves(const uint8_t *bundle, size_t bundle_l
  * and then event by event
  *   5  a sample's input sum or source energy is not finite
  *   3  an entry that the event reads is unusable: buffer and place
- *   6  a control, a number of the state or an output would not be finite
+ *   6  a control, a number of the state (a mode write's charge is one) or an output would not be finite
  *
  * Up to the start nothing is written and events and samples are 0. A run that stops at an event has written the samples before it and
  * leaves the state before it; events and samples count what was done, and the rest of `output` stays. A script may be cut: each piece goes
- * on from the state that the last one left. */
+ * on from the state that the last one left, with the same decays. */
 sid_filter_answer sid_filter_run(const uint8_t *bundle, size_t bundle_len, const uint8_t *curves, size_t curves_len,
-    uint8_t *state, size_t state_len, const uint8_t *script, size_t script_len, uint8_t *output, size_t output_len);
+    uint8_t *state, size_t state_len, const uint8_t *decays, size_t decays_len, const uint8_t *script, size_t script_len,
+    uint8_t *output, size_t output_len);
 
 /* Collects what three voices and the external input give the filter and the mixer in one clock, by a routing and a mode nibble: bits 0 to 2
  * of the routing send voices 1 to 3 into the filter, bit 3 the external input; what is not sent goes beside it, but for voice 3 where bit 3

@@ -1,5 +1,6 @@
 /* Opens a bundle, builds its curves and runs a small script: uncut, cut into two pieces, with a sample that is refused, and with too short
- * an output; asks where on its curve the last sample stood, and collects its two numbers from the voices themselves.
+ * an output; shows what its volume charged, and widens a state without charges; asks where on its curve the last sample stood, and collects
+ * its two numbers from the voices themselves.
  *
  * usage: run BUNDLE */
 #include "sid_filter.h"
@@ -11,6 +12,7 @@
 enum { EVENTS = 12, SAMPLES = 6, EVENT = SID_FILTER_EVENT_BYTES, SAMPLE = SID_FILTER_SAMPLE_BYTES };
 
 static uint8_t bundle[SID_FILTER_BUNDLE_BYTES], curves[SID_FILTER_CURVES_BYTES];
+static const uint8_t decays[SID_FILTER_DECAYS_BYTES] = SID_FILTER_EMULATOR_DECAYS;
 
 static void put_u32(uint8_t *bytes, uint32_t word)
 {
@@ -95,8 +97,15 @@ static sid_filter_answer run(uint8_t *state, const uint8_t *events, uint32_t cou
     put_u32(script, count);
     put_u32(script + 4, SID_FILTER_SCRIPT_HEADER_BYTES);
     memcpy(script + SID_FILTER_SCRIPT_HEADER_BYTES, events, (size_t)count * EVENT);
-    return sid_filter_run(bundle, sizeof bundle, curves, sizeof curves, state, SID_FILTER_STATE_BYTES, script,
+    return sid_filter_run(bundle, sizeof bundle, curves, sizeof curves, state, SID_FILTER_STATE_BYTES, decays, sizeof decays, script,
         SID_FILTER_SCRIPT_HEADER_BYTES + (size_t)count * EVENT, output, samples * SAMPLE);
+}
+
+/* Prints what the steps of the volume charged, and the conductance code from which the next one goes. */
+static void print_charges(const uint8_t *state)
+{
+    printf("  volume: fast charge %.4f, slow charge %.4f, conductance code %.7f\n", get_f32(state + 24), get_f32(state + 28),
+        get_f32(state + 44));
 }
 
 int main(int argc, char **argv)
@@ -119,6 +128,7 @@ int main(int argc, char **argv)
     for (const uint8_t *sample = output; sample < output + sizeof output; sample += SAMPLE)
         printf("  high % .7f  band % .7f  low % .7f  selected % .7f\n", get_f32(sample), get_f32(sample + 4), get_f32(sample + 8),
             get_f32(sample + 12));
+    print_charges(state);
 
     /* The same in two pieces, cut after the low write: the second goes on from the state that the first left. */
     uint8_t other_state[SID_FILTER_STATE_BYTES] = { 0 }, other_output[SAMPLES * SAMPLE];
@@ -126,6 +136,12 @@ int main(int argc, char **argv)
     good &= print_answer("second piece", run(other_state, events + 3 * EVENT, EVENTS - 3, other_output, SAMPLES), SID_FILTER_DONE);
     int same = memcmp(state, other_state, sizeof state) == 0 && memcmp(output, other_output, sizeof output) == 0;
     printf("  %s\n", same ? "the same samples and state" : "DIFFERS");
+
+    /* A state without charges, as versions before 0.7.0 kept it: its 24 bytes become 68, and a run takes these alone. */
+    uint8_t wide[SID_FILTER_STATE_BYTES];
+    good &= print_answer("widen", sid_filter_widen_state(state, SID_FILTER_NARROW_STATE_BYTES, wide, sizeof wide), SID_FILTER_DONE);
+    print_charges(wide);
+    good &= print_answer("widen 68 bytes", sid_filter_widen_state(state, sizeof state, wide, sizeof wide), SID_FILTER_ARGUMENT);
 
     /* Where on its curve the summer stood in the last sample: asked with the state before it, which stays as it is. */
     const uint8_t *last = events + (EVENTS - 1) * EVENT;

@@ -23,7 +23,8 @@ static struct {
 } script = { EVENTS, SID_FILTER_SCRIPT_HEADER_BYTES, { { 0, 0, { 0 }, 0, 0 } } };
 
 static uint8_t bundle[SID_FILTER_BUNDLE_BYTES], curves[SID_FILTER_CURVES_BYTES], state[SID_FILTER_STATE_BYTES];
-static uint8_t output[PAIRS * EACH_SAMPLES * SID_FILTER_SAMPLE_BYTES];
+static uint8_t wide[SID_FILTER_STATE_BYTES], output[PAIRS * EACH_SAMPLES * SID_FILTER_SAMPLE_BYTES];
+static const uint8_t decays[SID_FILTER_DECAYS_BYTES] = SID_FILTER_EMULATOR_DECAYS;
 static uint8_t stack[1 << 20];
 static ucontext_t here, there;
 
@@ -43,11 +44,17 @@ static void build_curves(void)
     answer = sid_filter_build_curves(bundle, sizeof bundle, curves, sizeof curves);
 }
 
+static void widen_state(void)
+{
+    frame = __builtin_frame_address(0);
+    answer = sid_filter_widen_state(state, SID_FILTER_NARROW_STATE_BYTES, wide, sizeof wide);
+}
+
 static void run_script(void)
 {
     frame = __builtin_frame_address(0);
-    answer = sid_filter_run(bundle, sizeof bundle, curves, sizeof curves, state, sizeof state, (const uint8_t *)&script, sizeof script, output,
-        sizeof output);
+    answer = sid_filter_run(bundle, sizeof bundle, curves, sizeof curves, state, sizeof state, decays, sizeof decays, (const uint8_t *)&script,
+        sizeof script, output, sizeof output);
 }
 
 /* Saws at half their level: voice 1 through the filter, voice 3 beside it; voice 2 silent. */
@@ -153,6 +160,7 @@ int main(void)
     write_script();
     int good = print_taken("sid_filter_open", open_bundle, SID_FILTER_HEADER) &&
         print_taken("sid_filter_build_curves", build_curves, SID_FILTER_HEADER) &&
+        print_taken("sid_filter_widen_state", widen_state, SID_FILTER_DONE) &&
         print_taken("sid_filter_run", run_script, SID_FILTER_HEADER) &&
         print_taken("sid_filter_collect", collect, SID_FILTER_DONE) &&
         print_taken("sid_filter_sample_curve", sample_curve, SID_FILTER_DONE) &&

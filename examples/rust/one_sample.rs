@@ -1,7 +1,7 @@
 //! Opens a bundle and runs one sample of a voice through a low-pass filter.
 //!
 //! usage: one_sample BUNDLE
-use sid_filter::{run_samples, voice_level, Bundle, Curves, Event, Sample, Script, State, VOICE_REST};
+use sid_filter::{run_samples, voice_level, Bundle, Curves, Decays, Event, Sample, Script, State, VOICE_REST};
 use std::error::Error;
 
 fn main() -> Result<(), Box<dyn Error>> {
@@ -16,7 +16,7 @@ fn main() -> Result<(), Box<dyn Error>> {
         Event::Sample { input_sum: level, source_energy: (level - VOICE_REST).powi(2) },
     ])?;
     let mut output = [Sample::default()];
-    let done = run_samples(&bundle, &curves, &mut State::start(), &script, &mut output)?;
+    let done = run_samples(&bundle, &curves, &mut State::start(), &Decays::EMULATOR, &script, &mut output)?;
     println!("{} events, {} sample: {:?}", done.events, done.samples, output[0]);
     Ok(())
 }

@@ -17,7 +17,7 @@ use std::time::Instant;
 
 use constants::*;
 use filter::Filter;
-use kept::{filter_block, play};
+use kept::{decays, filter_block, play};
 use numbers::Random;
 use response::volume_dac_conductance_code;
 use surface::proved;
@@ -191,6 +191,11 @@ fn any(_: usize, bits: u64) -> [u8; 12] {
     write((bits % 4) as usize, (bits >> 8) as u8)
 }
 
+/// A volume, the mode staying.
+fn volume(_: usize, bits: u64) -> [u8; 12] {
+    write(3, REGISTERS[3] & 0xf0 | (bits >> 8) as u8 & 15)
+}
+
 /// The state that some events lead to from the starting value.
 fn start(filter: &mut Filter, events: &[[u8; 12]]) {
     filter.reset();
@@ -212,8 +217,7 @@ fn play_all(filter: &mut Filter, script: &[u8], output: &mut [u8]) {
 }
 
 /// A row of the table for scripts that are run one after the other from where some events led, after one pass in which both sides gave the same bytes.
-fn run(name: &str, lent: (&[u8], &[u8]), filter: &mut Filter, events: &[[u8; 12]], scripts: &[Vec<u8>]) {
-    let (bundle, curves) = lent;
+fn run(name: &str, lent: [&[u8]; 3], filter: &mut Filter, events: &[[u8; 12]], scripts: &[Vec<u8>]) {
     let room = scripts.iter().map(|script| script[8..].chunks_exact(12).filter(|event| event[0] == 4).count()).max();
     let mut output = vec![0; 16 * room.expect("a script")];
     let mut beside = output.clone();
@@ -221,7 +225,7 @@ fn run(name: &str, lent: (&[u8], &[u8]), filter: &mut Filter, events: &[[u8; 12]
     let begin = filter_block(filter);
     let mut state = begin;
     for script in scripts {
-        let answer = proved::run(bundle, curves, &mut state, script, &mut output);
+        let answer = proved::run(lent, &mut state, script, &mut output);
         play_all(filter, script, &mut beside);
         let all = (answer.number, 12 * answer.events as usize + 8) == (0, script.len());
         assert!(all && output == beside && state == filter_block(filter), "{name}: the two differ");
@@ -235,7 +239,7 @@ fn run(name: &str, lent: (&[u8], &[u8]), filter: &mut Filter, events: &[[u8; 12]
         state = begin;
         for script in scripts {
             let output = &mut output.borrow_mut();
-            _ = black_box(proved::run(black_box(bundle), black_box(curves), &mut state, black_box(script), black_box(output)));
+            _ = black_box(proved::run(black_box(lent), &mut state, black_box(script), black_box(output)));
         }
     };
     row(name, EVENTS, &mut rust, &mut library);
@@ -245,8 +249,9 @@ fn main() {
     let bundle = surface::data("bundle");
     let mut curves = vec![0; surface::CURVES_LENGTH];
     assert_eq!(proved::build_curves(&bundle, &mut curves).number, 0);
-    let lent = (&bundle[..], &curves[..]);
     let (mut filter, mut random) = (Filter::new(), Random(7));
+    let decays = decays(filter.transients());
+    let lent = [&bundle[..], &curves, &decays];
     let mut mixed = |every: usize, write: fn(usize, u64) -> [u8; 12]| {
         scripts(EVENTS, |number| {
             let bits = random.bits();
@@ -268,6 +273,7 @@ fn main() {
     run("one write in 16, any values", lent, &mut filter, &full, &mixed(16, any));
     run("writes, fixed values", lent, &mut filter, &full, &mixed(1, fixed));
     run("writes, any values", lent, &mut filter, &full, &mixed(1, any));
+    run("mode writes, any volumes", lent, &mut filter, &full, &mixed(1, volume));
     run("idle samples", lent, &mut filter, &idle, &quiet);
     run("samples, nothing routed any more", lent, &mut filter, &ringing, &quiet);
     let short = scripts(16, |number| noise(number, number as u64 * 0x9e37_79b9_7f4a_7c15));

@@ -1,6 +1,7 @@
 //! `sid_filter_collect` beside the Rust's `collect`: the sums, the refusals beside an independent reading of the table (docs/FORMATS.md), and every lent byte.
 
 use crate::numbers::{word, Random, Tally};
+use crate::surface::number as alone_of;
 use crate::surface::proved::{self, Answer};
 use crate::voices::{not_finite_alone, voice, Sources, ENVELOPES, FLAGS, WAVEFORMS};
 
@@ -33,11 +34,6 @@ fn told(name: &'static str, subject: fn(&mut Seen)) -> (&'static str, Tally) {
 
 /// What the lent sums hold before a call.
 const BEFORE: [u8; 32] = [0xa5; 32];
-
-/// An answer that is a number alone.
-fn alone_of(number: u32) -> Answer {
-    Answer { number, events: 0, samples: 0, buffer: 0, place: 0 }
-}
 
 /// The bytes of the sums where each is finite, else 6 and what was there.
 fn left_by(sums: [f32; 8]) -> (Answer, [u8; 32]) {

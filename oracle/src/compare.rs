@@ -5,6 +5,7 @@
 
 include!("sid.rs");
 
+mod charges;
 mod circuit;
 mod collecting;
 mod core;
@@ -34,6 +35,7 @@ fn main() {
     subjects.extend(collecting::compare());
     subjects.extend(core::compare());
     subjects.extend(run::compare());
+    subjects.extend(charges::compare());
     subjects.extend(events::compare());
     let mut differences = 0;
     for (name, tally) in &subjects {

@@ -1,7 +1,7 @@
 //! The whole range of the registers: what the Rust keeps after its own writes beside the controls worked out from the state.
 
 use crate::filter::Filter;
-use crate::kept::{block, step_cutoff};
+use crate::kept::{filter_block, step_cutoff};
 use crate::numbers::Tally;
 use crate::state::{controls_of, same_controls};
 use crate::surface;
@@ -39,7 +39,7 @@ fn controls() -> Tally {
                 filter.write_signal_routing(resonance << 4 | (code as u8 % 16 + 4 + resonance) % 16);
                 for mode in 0..16 {
                     filter.write_mode_and_volume(mode << 4 | (code as u8 % 16 + mode) % 16);
-                    let ours = controls_of(&bundle, &block(filter.registers(), [0; 3]));
+                    let ours = controls_of(&bundle, &filter_block(&mut filter));
                     same_controls(&mut tally, &ours, filter.control());
                 }
             }

@@ -14,11 +14,12 @@ mod voices;
 use constants::*;
 use filter::Filter;
 use integrator::IntegratorState;
-use kept::{block, control_words, step_cutoff};
+use kept::{control_words, decays, filter_block, put, set_transients, step_cutoff};
 use mixing::MixingTopology;
 use response::*;
 use ruler::{rulers, told, Ruled};
 use tables::*;
+use transients::TransientState;
 use voices::{not_finite_alone, voice, Sources, ENVELOPES, FLAGS, WAVEFORMS};
 
 fn main() {
@@ -28,6 +29,7 @@ fn main() {
     let mut ruled = Ruled::new();
     let bundle = bundle(&coefficients, &surface);
     write("bundle", &bundle);
+    write_bytes("decays", &decays(&TransientState::new()));
 
     save("constants", constants(&coefficients[0]));
     save("answers", answers());
@@ -60,6 +62,8 @@ fn main() {
     save("sample_curve", sample_curve(&filter));
     save("curves", curve_entries(&filter));
     save("writes", writes(&mut filter));
+    save("charges", charges(&mut filter));
+    save("widening", widening(&mut filter));
     save("controls", controls(&mut filter));
     save("filter_sample", filter_samples(&mut filter));
     save("transfers", transfers(&mut filter, &mut ruled));
@@ -157,6 +161,11 @@ impl Random {
     /// Any pattern of bits.
     fn any(&mut self) -> f32 {
         f32::from_bits(self.bits() as u32)
+    }
+
+    /// Any finite number.
+    fn finite(&mut self) -> f32 {
+        self.pick(&[1.0, -1.0]) * f32::from_bits(self.below(0x7f80_0000))
     }
 
     /// Either sign, magnitude from 2^-60 to 2^60.
@@ -403,7 +412,7 @@ fn constants(coefficients: &FilterCoefficients) -> Vec<[u32; 5]> {
 /// its row names.
 fn answers() -> Vec<[u32; 9]> {
     let mut random = Random::of("answers");
-    let numbers = || (0..=11).filter(|&number| number != 9);
+    let numbers = || (0..=12).filter(|&number| number != 9);
     let mut pairs = vec![];
     for first in numbers() {
         for second in numbers() {
@@ -981,12 +990,22 @@ fn writes(filter: &mut Filter) -> Vec<[u32; 11]> {
     records
 }
 
-// ---- The filter's core
+// ---- States, as blocks
 
-/// A state's block as words.
-fn block_words(filter: &mut Filter, floats: [f32; 3]) -> [u32; 6] {
-    let block = block(filter.registers(), floats.map(f32::to_bits));
-    std::array::from_fn(|index| u32::from_le_bytes(block[4 * index..][..4].try_into().unwrap()))
+/// The block of the filter's state as words.
+fn block_words(filter: &mut Filter) -> [u32; 17] {
+    let block = filter_block(filter);
+    std::array::from_fn(|index| u32::from_le_bytes(block[4 * index..][..4].try_into().expect("four bytes")))
+}
+
+/// Band, low, energy.
+fn integrator_floats(filter: &mut Filter) -> [f32; 3] {
+    let kept = filter.state();
+    [kept.band_state, kept.low_state, kept.filter_source_energy]
+}
+
+fn set_integrator(filter: &mut Filter, [band_state, low_state, filter_source_energy]: [f32; 3]) {
+    *filter.state() = IntegratorState { band_state, low_state, filter_source_energy };
 }
 
 /// Any registers, by writes: every fourth time with a low write pending.
@@ -1001,16 +1020,125 @@ fn write_any(filter: &mut Filter, random: &mut Random) {
     filter.write_mode_and_volume(random.bits() as u8);
 }
 
+/// Any charges, by their usual sizes; every other time the code is that of the volume.
+fn charge_any(filter: &mut Filter, random: &mut Random) {
+    const SIZES: [f32; 10] = [3_200.0, 2_800.0, 1.0, 300.0, 300.0, 16.0, 3.0, 1.0, 1.0, 1.0];
+    let mut floats = SIZES.map(|size| match random.below(4) {
+        0 => random.pick(&[0.0, -0.0]),
+        1 => random.finite(),
+        _ => random.between(-size, size),
+    });
+    if random.below(2) == 0 {
+        floats[5] = volume_dac_conductance_code(filter.registers().volume);
+    }
+    let mut block = [0; 68];
+    block[24..64].copy_from_slice(floats.map(f32::to_le_bytes).as_flattened());
+    block[64] = random.below(2) as u8;
+    set_transients(filter.transients(), &block);
+}
+
+/// The places of the fast and the slow charge and of the conductance code in a block.
+const FAST: usize = 24;
+const SLOW: usize = 28;
+const CODE: usize = 44;
+
+/// The block of a volume, with floats at their places and else zeros.
+fn charged(volume: u8, floats: &[(usize, f32)]) -> [u8; 68] {
+    let mut block = [0; 68];
+    block[10] = volume;
+    for (place, float) in floats {
+        block[*place..][..4].copy_from_slice(&float.to_le_bytes());
+    }
+    block
+}
+
+/// The smallest blocks that show each course of a mode write, each with the volume that is written.
+fn least_charged() -> Vec<([u8; 68], u8)> {
+    const OVERFLOWS: f32 = 1.654_913_1e36;
+    let code = volume_dac_conductance_code;
+    // The full step, and back.
+    let full = [(FAST, -3152.0623), (SLOW, -2777.7222), (CODE, code(15))];
+    let mut cases = vec![(charged(0, &[]), 15), (charged(15, &full), 0)];
+    // The volume stays, and -0.0 becomes +0.0; a code of -0.0 leaves it.
+    cases.extend((0..16).map(|volume| (charged(volume, &[(FAST, -0.0), (SLOW, -0.0), (CODE, code(volume))]), volume)));
+    cases.push((charged(0, &[(FAST, -0.0), (SLOW, -0.0), (CODE, -0.0)]), 0));
+    // A code that is not the volume's.
+    cases.extend((0..=255).map(|pair| (charged(15 - pair / 16, &[(CODE, code(pair / 16))]), pair % 16)));
+    for sign in [1.0, -1.0] {
+        // The fast charge overflows from a code on, and the slow one alone where it is large before.
+        let codes = [OVERFLOWS.next_down(), OVERFLOWS, OVERFLOWS.next_up(), f32::MAX];
+        cases.extend(codes.map(|code| (charged(0, &[(CODE, sign * code)]), 0)));
+        let charges = [(SLOW, 3.0e38), (SLOW, -3.0e38), (FAST, 3.0e38)];
+        cases.extend(charges.map(|(place, charge)| (charged(0, &[(CODE, sign * 1.2e36), (place, sign * charge)]), 0)));
+    }
+    cases
+}
+
+/// A state's block and the value of a mode write; the block after it, and whether both volume charges are finite there.
+fn mode_write(filter: &mut Filter, value: u8) -> [u32; 36] {
+    let before = block_words(filter);
+    filter.write_mode_and_volume(value);
+    let after = block_words(filter);
+    let finite = [FAST, SLOW].iter().all(|place| f32::from_bits(after[place / 4]).is_finite());
+    joined([&before, &[value.into()], &after, &[finite.into()]])
+}
+
+/// Mode writes: from the smallest states that show each course, then from any, of which every eighth keeps its volume and another is about
+/// where a charge overflows.
+fn charges(filter: &mut Filter) -> Vec<[u32; 36]> {
+    let mut random = Random::of("charges");
+    let mut records = vec![];
+    for (block, volume) in least_charged() {
+        put(filter, &block);
+        records.push(mode_write(filter, volume));
+    }
+    for number in 0..2048 {
+        write_any(filter, &mut random);
+        set_integrator(filter, [(); 3].map(|()| random.between(-1.5, 1.5)));
+        charge_any(filter, &mut random);
+        if number % 8 == 1 {
+            filter.transients().volume_conductance_code = random.between(-3.2e36, 3.2e36);
+        }
+        let (volume, value) = (filter.registers().volume, random.bits() as u8);
+        records.push(mode_write(filter, if number % 8 == 0 { value & 0xf0 | volume } else { value }));
+    }
+    records
+}
+
+/// The first 24 bytes of a block and the block that they widen to: the code that a write of the volume leaves, and nothing charged. Every
+/// volume from the starting value, then from any registers.
+fn widening(filter: &mut Filter) -> Vec<[u32; 23]> {
+    let mut random = Random::of("widening");
+    (0..128u8)
+        .map(|number| {
+            filter.reset();
+            if number >= 16 {
+                write_any(filter, &mut random);
+                set_integrator(filter, [(); 3].map(|()| random.finite()));
+            }
+            let mode = filter.registers().mode;
+            filter.write_mode_and_volume(mode << 4 | number % 16);
+            let volume_conductance_code = filter.transients().volume_conductance_code;
+            *filter.transients() = TransientState { volume_conductance_code, ..TransientState::new() };
+            let wide = block_words(filter);
+            joined([&wide[..6], &wide])
+        })
+        .collect()
+}
+
+// ---- The filter's core
+
 /// A state's block, then every field of the control cache in its order: every resonance and mode at cutoffs that are at an end, displaced to
-/// an end or displaced from one, then any registers.
-fn controls(filter: &mut Filter) -> Vec<[u32; 72]> {
-    let mut random = Random::of("controls");
+/// an end or displaced from one, with the charges that the writes leave; then any registers and charges.
+fn controls(filter: &mut Filter) -> Vec<[u32; 83]> {
+    let (mut random, mut charges) = (Random::of("controls"), Random::of("controls, charges"));
     let steps = [(0, 0), (2047, 2047), (2047, 0), (0, 2047), (0, 66), (2047, 1981)];
     let mut records = vec![];
     let mut record = |filter: &mut Filter| {
-        let block = block_words(filter, [0.0; 3]);
+        let block = block_words(filter);
         records.push(joined([&block, &control_words(filter.control())]));
     };
+    filter.reset();
     for (from, to) in steps {
         step_cutoff(filter, from, to);
         for pair in 0..=255u8 {
@@ -1021,6 +1149,7 @@ fn controls(filter: &mut Filter) -> Vec<[u32; 72]> {
     }
     for _ in 0..1024 {
         write_any(filter, &mut random);
+        charge_any(filter, &mut charges);
         record(filter);
     }
     records
@@ -1062,22 +1191,21 @@ fn any_input(random: &mut Random, edges: &[f32]) -> [f32; 2] {
 
 /// A state's block, the input's sum and the source's energy; high, band, low and what the mode selects, and the block after the sample. Samples
 /// that leave the finite domain are left out.
-fn filter_samples(filter: &mut Filter) -> Vec<[u32; 18]> {
-    let mut random = Random::of("filter_sample");
+fn filter_samples(filter: &mut Filter) -> Vec<[u32; 40]> {
+    let (mut random, mut charges) = (Random::of("filter_sample"), Random::of("filter_sample, charges"));
     let edges: Vec<f32> = edges().into_iter().filter(|x| x.is_finite()).collect();
     let mut records = vec![];
     for number in 0..4096 {
         write_any(filter, &mut random);
         let state = state_floats(filter, &mut random, number);
         let input = any_input(&mut random, &edges);
-        let before = block_words(filter, state);
-        let kept = filter.state();
-        [kept.band_state, kept.low_state, kept.filter_source_energy] = state;
+        set_integrator(filter, state);
+        charge_any(filter, &mut charges);
+        let before = block_words(filter);
         let outputs = filter.sample(input[0], input[1]);
-        let kept = filter.state();
-        let after = [kept.band_state, kept.low_state, kept.filter_source_energy];
+        let after = integrator_floats(filter);
         if state.iter().chain(&outputs).chain(&after).all(|x| x.is_finite()) {
-            records.push(joined([&before, &input.map(word), &outputs.map(word), &block_words(filter, after)]));
+            records.push(joined([&before, &input.map(word), &outputs.map(word), &block_words(filter)]));
         }
     }
     records
@@ -1123,20 +1251,21 @@ fn transfers(filter: &mut Filter, ruled: &mut Ruled) -> Vec<[u32; 8]> {
 
 /// A state's block, the input's sum and the source's energy; number, value, index and fraction of the summer in that sample, zeros where it is
 /// idle. Samples that leave the finite domain are left out.
-fn sample_points(filter: &mut Filter, ruled: &mut Ruled) -> Vec<[u32; 12]> {
-    let mut random = Random::of("sample_point");
+fn sample_points(filter: &mut Filter, ruled: &mut Ruled) -> Vec<[u32; 23]> {
+    let (mut random, mut charges) = (Random::of("sample_point"), Random::of("sample_point, charges"));
     let edges = edges();
     let mut records = vec![];
     for number in 0..4096 {
         write_any(filter, &mut random);
         let state = state_floats(filter, &mut random, number);
         let [sum, energy] = any_input(&mut random, &edges);
-        let before = block_words(filter, state);
+        set_integrator(filter, state);
+        charge_any(filter, &mut charges);
+        let before = block_words(filter);
         let routing = filter.registers().resonance << 4 | filter.registers().routing;
         let sampled = |filter: &mut Filter| {
             filter.write_signal_routing(routing);
-            let kept = filter.state();
-            [kept.band_state, kept.low_state, kept.filter_source_energy] = state;
+            set_integrator(filter, state);
             filter.sample(sum, energy)
         };
         let refused = if sum.is_finite() && energy.is_finite() { 0 } else { 5 };
@@ -1152,8 +1281,7 @@ fn sample_points(filter: &mut Filter, ruled: &mut Ruled) -> Vec<[u32; 12]> {
             point(0, 0.0, (0, 0.0))
         };
         let outputs = sampled(filter);
-        let kept = filter.state();
-        let after = [kept.band_state, kept.low_state, kept.filter_source_energy];
+        let after = integrator_floats(filter);
         if state.iter().all(|x| x.is_finite()) && (refused != 0 || outputs.iter().chain(&after).all(|x| x.is_finite())) {
             records.push(joined([&before, &[sum, energy].map(word), &told]));
         }

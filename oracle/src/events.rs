@@ -2,17 +2,20 @@
 //! same events by its own methods; after each event the answer, the outputs, the state and every kept field are compared by their bits. What
 //! is refused is checked against an independent reading of the table of refusals (docs/FORMATS.md), and leaves the Rust's filter as it was.
 
+use crate::charges::{any_decays, fill};
 use crate::constants::*;
 use crate::control::{ControlCache, FilterRegisters};
 use crate::direct::{bundle_refused, curve_places, entries_refused, lent, resting_places, summer_average, unless, Told};
 use crate::filter::Filter;
 use crate::integrator::IntegratorState;
-use crate::kept::{block, control_words};
+use crate::kept::{block, control_words, filter_block, play, put, put_transients, set, set_transients, transient_floats};
 use crate::mixing::MixingTopology;
 use crate::numbers::{Random, Tally};
+use crate::plain::check_decays;
 use crate::response::operating_position;
 use crate::state::proved::{Controls, FilterControls, OutputControls};
 use crate::surface::{curves_of, data, CURVES_LENGTH};
+use crate::transients::TransientState;
 
 mod proved {
     use crate::direct::proved::Topology;
@@ -28,11 +31,20 @@ mod proved {
         pub nibbles: [u8; 4],
     }
 
+    /// The ten floats in the block's order.
+    #[repr(C)]
+    #[derive(Clone, Copy)]
+    pub struct Transients {
+        pub floats: [f32; 10],
+        pub pulse_pending: bool,
+    }
+
     #[repr(C)]
     #[derive(Clone, Copy)]
     pub struct Core {
         pub registers: Registers,
         pub floats: [f32; 3],
+        pub transients: Transients,
         pub topology: Topology,
         pub controls: Controls,
     }
@@ -53,6 +65,8 @@ mod proved {
             bundle_len: usize,
             curves: *const u8,
             curves_len: usize,
+            decays: *const u8,
+            decays_len: usize,
             core: Core,
             event: *const u8,
             event_len: usize,
@@ -66,6 +80,8 @@ mod proved {
             bundle_len: usize,
             curves: *const u8,
             curves_len: usize,
+            decays: *const u8,
+            decays_len: usize,
             block: *const u8,
             block_len: usize,
             script: *const u8,
@@ -75,19 +91,33 @@ mod proved {
         );
     }
 
-    pub fn feed(bundle: &[u8], curves: &[u8], core: Core, event: &[u8]) -> Given {
-        unsafe { probe_feed(bundle.as_ptr(), bundle.len(), curves.as_ptr(), curves.len(), core, event.as_ptr(), event.len()) }
+    pub fn feed([bundle, curves, decays]: [&[u8]; 3], core: Core, event: &[u8]) -> Given {
+        unsafe {
+            probe_feed(
+                bundle.as_ptr(),
+                bundle.len(),
+                curves.as_ptr(),
+                curves.len(),
+                decays.as_ptr(),
+                decays.len(),
+                core,
+                event.as_ptr(),
+                event.len(),
+            )
+        }
     }
 
     /// The words of the rows: that of the start, then one for each event.
-    pub fn cores(bundle: &[u8], curves: &[u8], block: &[u8], script: &[u8], rows: usize) -> Vec<[u32; 97]> {
-        let mut out = vec![0xa5; 388 * rows + 3];
+    pub fn cores([bundle, curves, decays]: [&[u8]; 3], block: &[u8], script: &[u8], rows: usize) -> Vec<[u32; 108]> {
+        let mut out = vec![0xa5; 432 * rows + 3];
         unsafe {
             probe_cores(
                 bundle.as_ptr(),
                 bundle.len(),
                 curves.as_ptr(),
                 curves.len(),
+                decays.as_ptr(),
+                decays.len(),
                 block.as_ptr(),
                 block.len(),
                 script.as_ptr(),
@@ -96,15 +126,15 @@ mod proved {
                 out.len(),
             )
         }
-        assert_eq!(out[388 * rows..], [0xa5; 3]);
+        assert_eq!(out[432 * rows..], [0xa5; 3]);
         let row = |bytes: &[u8]| std::array::from_fn(|i| u32::from_le_bytes(bytes[4 * i..4 * i + 4].try_into().unwrap()));
-        out.chunks_exact(388).map(row).collect()
+        out.chunks_exact(432).map(row).collect()
     }
 }
 
 pub fn compare() -> Vec<(&'static str, Tally)> {
-    let mut lent = Lent { bundle: data("bundle"), filter: Filter::new(), curves: vec![] };
-    lent.curves = curves_of(&lent.filter);
+    let filter = Filter::new();
+    let mut lent = Lent { bundle: data("bundle"), curves: curves_of(&filter), decays: [0; 24], filter };
     vec![
         told("core, lists of events", lists(&mut lent)),
         told("core, lists over damaged entries", damaged(&mut lent)),
@@ -113,10 +143,11 @@ pub fn compare() -> Vec<(&'static str, Tally)> {
     ]
 }
 
-/// The two buffers, and the Rust's filter.
+/// The three buffers, and the Rust's filter.
 struct Lent {
     bundle: Vec<u8>,
     curves: Vec<u8>,
+    decays: [u8; 24],
     filter: Filter,
 }
 
@@ -125,10 +156,10 @@ struct Lent {
 struct Reached {
     tally: Tally,
     kinds: [u64; 6],
-    starts: [u64; 11],
-    writes: [u64; 11],
-    resets: [u64; 11],
-    samples: [u64; 11],
+    starts: [u64; 13],
+    writes: [u64; 13],
+    resets: [u64; 13],
+    samples: [u64; 13],
 }
 
 impl Reached {
@@ -144,8 +175,8 @@ impl Reached {
 
 /// Prints what was reached.
 fn told(name: &'static str, reached: Reached) -> (&'static str, Tally) {
-    let numbers = |counts: [u64; 11]| {
-        let met = (0..11).filter(|&number| counts[number] > 0);
+    let numbers = |counts: [u64; 13]| {
+        let met = (0..13).filter(|&number| counts[number] > 0);
         met.map(|number| format!("{number}: {}", counts[number])).collect::<Vec<_>>().join(", ")
     };
     let [low, high, routing, mode, sample, reset] = reached.kinds;
@@ -219,7 +250,7 @@ fn event(random: &mut Random, wildness: u64, resets: u64) -> Event {
 }
 
 /// A valid state's block.
-fn valid_block(random: &mut Random) -> [u8; 24] {
+fn valid_block(random: &mut Random) -> [u8; 68] {
     let bits = random.bits();
     let nibble = |shift: u32| (bits >> shift & 15) as u8;
     let code = |code: u64| if code % 16 == 0 { 2047 * (code >> 11 & 1) as u16 } else { code as u16 & 2047 };
@@ -243,7 +274,9 @@ fn valid_block(random: &mut Random) -> [u8; 24] {
         6 => [tame(random, 2.0) - 1.0, tame(random, 2.0) - 1.0, near(random)],
         _ => [tame(random, 2.0) - 1.0, tame(random, 2.0) - 1.0, tame(random, 1.0)],
     };
-    block(&registers, floats.map(|x| if x.is_finite() { x.to_bits() } else { 0 }))
+    let mut block = block(&registers, floats.map(|x| if x.is_finite() { x.to_bits() } else { 0 }));
+    fill(&mut block, random);
+    block
 }
 
 // ---- the Rust's side
@@ -255,43 +288,20 @@ fn copied<T>(x: &T) -> T {
 }
 
 /// What a core has.
-struct Parts(FilterRegisters, IntegratorState, MixingTopology, ControlCache);
+struct Parts(FilterRegisters, IntegratorState, TransientState, MixingTopology, ControlCache);
 
 fn parts(filter: &mut Filter) -> Parts {
-    let (registers, state, topology, control) = filter.parts();
-    Parts(copied(registers), copied(state), *topology, copied(control))
+    let (registers, state, transients, topology, control) = filter.parts();
+    Parts(copied(registers), copied(state), copied(transients), *topology, copied(control))
 }
 
 fn put_back(filter: &mut Filter, kept: Parts) {
-    let (registers, state, topology, control) = filter.parts();
-    (*registers, *state, *topology, *control) = (kept.0, kept.1, kept.2, kept.3);
+    let (registers, state, transients, topology, control) = filter.parts();
+    (*registers, *state, *transients, *topology, *control) = (kept.0, kept.1, kept.2, kept.3, kept.4);
 }
 
 fn floats(state: &IntegratorState) -> [f32; 3] {
     [state.band_state, state.low_state, state.filter_source_energy]
-}
-
-/// The state of a block, and all else as it was.
-fn set(filter: &mut Filter, block: &[u8; 24]) {
-    let word = |at: usize| u16::from_le_bytes([block[at], block[at + 1]]);
-    let float = |at: usize| f32::from_le_bytes(block[at..at + 4].try_into().unwrap());
-    *filter.registers() = FilterRegisters {
-        cutoff: word(0),
-        cutoff_dac_displacement_codes: word(2) as i16,
-        cutoff_write_base: word(4),
-        cutoff_low_pending: block[6] == 1,
-        resonance: block[7],
-        routing: block[8],
-        mode: block[9],
-        volume: block[10],
-    };
-    *filter.state() = IntegratorState { band_state: float(12), low_state: float(16), filter_source_energy: float(20) };
-}
-
-/// The state of a block, with all that is kept as the Rust's routing write works it out.
-fn put(filter: &mut Filter, block: &[u8; 24]) {
-    set(filter, block);
-    filter.write_signal_routing(block[7] << 4 | block[8]);
 }
 
 fn topology_words(t: &MixingTopology) -> [u32; 17] {
@@ -301,11 +311,6 @@ fn topology_words(t: &MixingTopology) -> [u32; 17] {
     let masks = [t.filter_internal_mask, t.bypass_internal_mask];
     let counted = flags.chain(counts.map(|count| count as u32)).chain(reciprocals.map(f32::to_bits));
     counted.chain(masks.map(u32::from)).collect::<Vec<_>>().try_into().unwrap()
-}
-
-fn block_of(filter: &mut Filter) -> [u8; 24] {
-    let (registers, state, _, _) = filter.parts();
-    block(registers, floats(state).map(f32::to_bits))
 }
 
 /// The entries of the bundle that the refresh calls after a write read, in the Rust's order.
@@ -334,7 +339,7 @@ fn is_idle(t: &MixingTopology, s: &IntegratorState) -> bool {
 
 /// The entries that a sample reads: two of the curves, then four of the bundle.
 fn sample_places(filter: &mut Filter, event: Event) -> ([usize; 2], [usize; 4]) {
-    let (_, _, t, _) = filter.parts();
+    let t = filter.topology();
     let inputs = 2 + t.filter_input_count;
     (curve_places(inputs, summer_average(t, event.sum)), resting_places(inputs))
 }
@@ -367,25 +372,31 @@ fn is_whole(t: &MixingTopology, c: &ControlCache) -> bool {
     finite && indexed && t.filter_input_count <= 4 && t.filter_output_count <= 3 && t.mixer_input_count <= 7
 }
 
-fn is_valid(r: &FilterRegisters, s: &IntegratorState) -> bool {
+fn is_finite(transients: &TransientState) -> bool {
+    transient_floats(transients).iter().all(|x| x.is_finite())
+}
+
+fn is_valid(r: &FilterRegisters, s: &IntegratorState, transients: &TransientState) -> bool {
     r.cutoff <= 2047
         && (-57..=57).contains(&r.cutoff_dac_displacement_codes)
         && r.cutoff_write_base <= 2047
         && [r.resonance, r.routing, r.mode, r.volume].iter().all(|&nibble| nibble <= 15)
         && floats(s).iter().all(|x| x.is_finite())
+        && is_finite(transients)
 }
 
-/// What is refused before any event: 1, 2, 4, 10.
-fn refused_before(filter: &mut Filter, bundle: &[u8], curves: &[u8]) -> Option<Told> {
-    let (registers, state, topology, control) = filter.parts();
+/// What is refused before any event: 1, 2, 4, 10, 12.
+fn refused_before(filter: &mut Filter, [bundle, curves, decays]: [&[u8]; 3]) -> Option<Told> {
+    let (registers, state, transients, topology, control) = filter.parts();
     bundle_refused(bundle)
         .or_else(|| unless(curves.len() == CURVES_LENGTH, 4))
-        .or_else(|| unless(is_valid(registers, state) && is_whole(topology, control), 10))
+        .or_else(|| unless(is_valid(registers, state, transients) && is_whole(topology, control), 10))
+        .or_else(|| check_decays(decays).err())
 }
 
 /// What a sample is refused with before it is taken: 5, 3.
-fn sample_refused(filter: &mut Filter, bundle: &[u8], curves: &[u8], event: Event) -> Option<Told> {
-    let (_, state, topology, _) = filter.parts();
+fn sample_refused(filter: &mut Filter, [bundle, curves, _]: [&[u8]; 3], event: Event) -> Option<Told> {
+    let (_, state, _, topology, _) = filter.parts();
     let idle = is_idle(topology, state);
     unless(event.sum.is_finite() && event.energy.is_finite(), 5).or_else(|| {
         let (curve, resting) = sample_places(filter, event);
@@ -397,7 +408,7 @@ fn sample_refused(filter: &mut Filter, bundle: &[u8], curves: &[u8], event: Even
 /// `advance_filter_core` with its four substeps one by one: the outputs and the state after them, if every number after each is finite.
 fn substeps(filter: &mut Filter, event: Event) -> Option<[f32; 6]> {
     let summed = filter.summer(event.sum) * FILTER_INPUT_GAIN;
-    let (_, state, t, c) = filter.parts();
+    let (_, state, _, t, c) = filter.parts();
     let mut state = copied(state);
     if is_idle(t, &state) {
         let [band, low, energy] = floats(&state);
@@ -428,9 +439,9 @@ const DAMPING: usize = 2_097_208;
 const DONE: Told = (0, 0, 0);
 
 /// Feeds an event to the Rust's filter, which stays as it was where the event is refused. The outputs are a sample's, else zeros.
-fn feed(tally: &mut Tally, filter: &mut Filter, bundle: &[u8], curves: &[u8], event: Event) -> (Told, [f32; 4]) {
-    let refused = refused_before(filter, bundle, curves);
-    let refused = refused.or_else(|| if event.kind == 4 { sample_refused(filter, bundle, curves, event) } else { None });
+fn feed(tally: &mut Tally, filter: &mut Filter, lent: [&[u8]; 3], event: Event) -> (Told, [f32; 4]) {
+    let refused = refused_before(filter, lent);
+    let refused = refused.or_else(|| if event.kind == 4 { sample_refused(filter, lent, event) } else { None });
     if let Some(told) = refused {
         return (told, [0.0; 4]);
     }
@@ -449,7 +460,8 @@ fn feed(tally: &mut Tally, filter: &mut Filter, bundle: &[u8], curves: &[u8], ev
         _ => filter.reset(),
     }
     let refused = if event.kind != 4 {
-        entries_refused(bundle, 0, &write_places(filter.registers(), event.kind))
+        let entries = entries_refused(lent[0], 0, &write_places(filter.registers(), event.kind));
+        entries.or_else(|| unless(is_finite(filter.transients()), 6))
     } else if let Some(last) = stepped {
         let [band, low, energy] = floats(filter.state());
         let theirs = [outputs[0], outputs[1], outputs[2], band, low, energy];
@@ -470,11 +482,12 @@ fn feed(tally: &mut Tally, filter: &mut Filter, bundle: &[u8], curves: &[u8], ev
 // ---- lists
 
 /// The rows of a list beside the Rust's filter after each event.
-fn same_list(reached: &mut Reached, lent: &mut Lent, from: &[u8; 24], events: &[Event]) {
-    let rows = proved::cores(&lent.bundle, &lent.curves, from, &script(events), events.len() + 1);
-    let Lent { bundle, curves, filter } = lent;
+fn same_list(reached: &mut Reached, lent: &mut Lent, from: &[u8; 68], events: &[Event]) {
+    let Lent { bundle, curves, decays, filter } = lent;
+    let rows = proved::cores([bundle, curves, decays], from, &script(events), events.len() + 1);
     put(filter, from);
-    let start = entries_refused(bundle, 0, &write_places(filter.registers(), 0)).unwrap_or(DONE);
+    let refused = check_decays(decays).err().or_else(|| entries_refused(bundle, 0, &write_places(filter.registers(), 0)));
+    let start = refused.unwrap_or(DONE);
     reached.starts[start.0 as usize] += 1;
     reached.tally.same((rows[0][0], rows[0][1], rows[0][2]), start);
     if start != DONE {
@@ -482,7 +495,7 @@ fn same_list(reached: &mut Reached, lent: &mut Lent, from: &[u8; 24], events: &[
     }
     same_core(&mut reached.tally, &rows[0], filter);
     for (&event, row) in events.iter().zip(&rows[1..]) {
-        let (told, outputs) = feed(&mut reached.tally, filter, bundle, curves, event);
+        let (told, outputs) = feed(&mut reached.tally, filter, [bundle, curves, decays], event);
         reached.event(event, told);
         reached.tally.same((row[0], row[1], row[2]), told);
         reached.tally.same(&row[4..8], &outputs.map(f32::to_bits)[..]);
@@ -491,11 +504,11 @@ fn same_list(reached: &mut Reached, lent: &mut Lent, from: &[u8; 24], events: &[
 }
 
 /// State, topology and controls of a row.
-fn same_core(tally: &mut Tally, row: &[u32; 97], filter: &mut Filter) {
-    let state: Vec<u8> = row[8..14].iter().flat_map(|word| word.to_le_bytes()).collect();
-    tally.same(&state[..], &block_of(filter)[..]);
-    tally.same(&row[14..31], &topology_words(filter.topology())[..]);
-    for (ours, theirs) in row[31..].iter().zip(control_words(filter.control())) {
+fn same_core(tally: &mut Tally, row: &[u32; 108], filter: &mut Filter) {
+    let state: Vec<u8> = row[8..25].iter().flat_map(|word| word.to_le_bytes()).collect();
+    tally.same(&state[..], &filter_block(filter)[..]);
+    tally.same(&row[25..42], &topology_words(filter.topology())[..]);
+    for (ours, theirs) in row[42..].iter().zip(control_words(filter.control())) {
         tally.same(*ours, theirs);
     }
 }
@@ -510,7 +523,8 @@ fn lists(lent: &mut Lent) -> Reached {
             _ => random.bits() as usize % 40,
         };
         let (wildness, resets) = ([0, 1, 8, 32][turn % 4], [0, 1, 4][turn % 3]);
-        let from = if turn % 16 == 0 { [0; 24] } else { valid_block(&mut random) };
+        let from = if turn % 16 == 0 { [0; 68] } else { valid_block(&mut random) };
+        lent.decays = any_decays(&mut random);
         let events: Vec<Event> = (0..count).map(|_| event(&mut random, wildness, resets)).collect();
         same_list(&mut reached, lent, &from, &events);
     }
@@ -537,8 +551,8 @@ fn spoil(bytes: &mut [u8], place: usize, random: &mut Random) -> [u8; 4] {
 }
 
 /// Each entry that a list reads, by its buffer and place.
-fn reads(lent: &mut Lent, from: &[u8; 24], events: &[Event]) -> Vec<(u32, usize)> {
-    let Lent { bundle, curves, filter } = lent;
+fn reads(lent: &mut Lent, from: &[u8; 68], events: &[Event]) -> Vec<(u32, usize)> {
+    let Lent { bundle, curves, filter, .. } = lent;
     put(filter, from);
     let of_write = |filter: &mut Filter, kind| write_places(filter.registers(), kind).into_iter().map(|place| (0, place));
     let mut all: Vec<_> = of_write(filter, 0).collect();
@@ -547,7 +561,7 @@ fn reads(lent: &mut Lent, from: &[u8; 24], events: &[Event]) -> Vec<(u32, usize)
             let (curve, resting) = sample_places(filter, event);
             all.extend(curve.map(|place| (1, place)).into_iter().chain(resting.map(|place| (0, place))));
         }
-        feed(&mut Tally::default(), filter, bundle, curves, event);
+        feed(&mut Tally::default(), filter, [bundle, curves, &[0; 24]], event);
         if event.kind != 4 {
             all.extend(of_write(filter, event.kind));
         }
@@ -555,11 +569,21 @@ fn reads(lent: &mut Lent, from: &[u8; 24], events: &[Event]) -> Vec<(u32, usize)
     all
 }
 
+/// Any decays, now and then with another bit, which mostly makes them wrong.
+fn some_decays(random: &mut Random) -> [u8; 24] {
+    let (mut decays, bits) = (any_decays(random), random.bits());
+    if bits % 32 == 0 {
+        decays[(bits >> 8) as usize % 24] ^= 1 << (bits >> 16 & 7);
+    }
+    decays
+}
+
 /// Lists over buffers of which one to four entries that the list reads, and one that it may not, are unusable.
 fn damaged(lent: &mut Lent) -> Reached {
     let (mut reached, mut random) = (Reached::default(), Random(42));
     for turn in 0..100_000 {
         let from = valid_block(&mut random);
+        lent.decays = some_decays(&mut random);
         let count = if turn % 5000 == 0 { 10_000 } else { 1 + random.bits() as usize % 40 };
         let events: Vec<Event> = (0..count).map(|_| event(&mut random, [0, 4][turn % 2], 2)).collect();
         let read = reads(lent, &from, &events);
@@ -584,7 +608,7 @@ fn damaged(lent: &mut Lent) -> Reached {
 
 /// The Rust's parts as a core.
 fn core_of(filter: &mut Filter) -> proved::Core {
-    let (r, s, t, c) = filter.parts();
+    let (r, s, transients, t, c) = filter.parts();
     proved::Core {
         registers: proved::Registers {
             cutoff: r.cutoff,
@@ -594,6 +618,7 @@ fn core_of(filter: &mut Filter) -> proved::Core {
             nibbles: [r.resonance, r.routing, r.mode, r.volume],
         },
         floats: floats(s),
+        transients: proved::Transients { floats: transient_floats(transients), pulse_pending: transients.pulse_gate_pending },
         topology: lent(t),
         controls: Controls {
             filter: FilterControls {
@@ -630,7 +655,8 @@ fn core_words(core: &proved::Core) -> Vec<u32> {
     let (r, t, f, o) = (&core.registers, &core.topology, &core.controls.filter, &core.controls.output);
     let mut words = vec![u32::from(r.cutoff), u32::from(r.displacement), u32::from(r.write_base), u32::from(r.pending)];
     words.extend(r.nibbles.map(u32::from));
-    words.extend(core.floats.map(f32::to_bits));
+    words.extend(core.floats.iter().chain(&core.transients.floats).map(|x| x.to_bits()));
+    words.push(u32::from(core.transients.pulse_pending));
     words.extend(t.filter_membership.iter().chain(&t.bypass_membership).map(|&flag| u32::from(flag)));
     let indices = [f.effective_cutoff_index, f.resonance_index];
     words.extend(t.counts.iter().chain(&indices).flat_map(|&count| [count as u32, (count as u64 >> 32) as u32]));
@@ -659,6 +685,14 @@ fn core_words(core: &proved::Core) -> Vec<u32> {
     words
 }
 
+/// Sets one of the ten floats, by its number in the block's order.
+fn set_transient(transients: &mut TransientState, index: usize, float: f32) {
+    let mut block = [0; 68];
+    put_transients(&mut block, transients);
+    block[24 + 4 * index..28 + 4 * index].copy_from_slice(&float.to_le_bytes());
+    set_transients(transients, &block);
+}
+
 /// Something about the Rust's parts that no write of its own leaves: an invalid state, a count past its table, a number that is not finite,
 /// or one that no sample reads.
 fn distort(filter: &mut Filter, random: &mut Random) {
@@ -667,8 +701,8 @@ fn distort(filter: &mut Filter, random: &mut Random) {
     let bin = (bits >> 16) as usize % 16;
     let count = if bits >> 24 & 7 == 7 { usize::MAX >> (bits >> 32 & 31) } else { 5 + (bits >> 32) as usize % 4 };
     let nibble = 16 + (bits >> 40) as u8 % 240;
-    let (r, s, t, c) = filter.parts();
-    match bits % 46 {
+    let (r, s, transients, t, c) = filter.parts();
+    match bits % 50 {
         0 => r.cutoff = 2048 + (bits >> 32) as u16 % 63_488,
         1 => r.cutoff_dac_displacement_codes = 58 + ((bits >> 32) as i16 & 0x3fff),
         2 => r.cutoff_dac_displacement_codes = -58 - ((bits >> 32) as i16 & 0x3fff),
@@ -712,6 +746,7 @@ fn distort(filter: &mut Filter, random: &mut Random) {
         40 => (c.pure_bypass_common_mode_gain, c.scaled_filter_common_mode) = (odd, odd),
         41 => c.frozen_dac_bias_mode = !c.frozen_dac_bias_mode,
         42 => c.mode_output_gain = f32::MAX,
+        43..=46 => set_transient(transients, (bits >> 32) as usize % 10, odd),
         // A feedback that does not saturate: the high-pass leaves the finite domain in an early substep, and may be back in it after the last.
         _ => {
             (c.integrator_gain, c.source_gain_modulation, c.resonance_feedback_scale) = ([0.01; 16], 0.0, 1.0e-39);
@@ -734,7 +769,7 @@ fn same_given(reached: &mut Reached, event: Event, ours: &proved::Given, filter:
 /// alters what the Rust's write alters and takes the rest as it is.
 fn handed_in(lent: &mut Lent) -> Reached {
     let (mut reached, mut random) = (Reached::default(), Random(43));
-    let Lent { bundle, curves, filter } = lent;
+    let Lent { bundle, curves, filter, .. } = lent;
     for _ in 0..150_000 {
         let bits = random.bits();
         put(filter, &valid_block(&mut random));
@@ -774,9 +809,10 @@ fn handed_in(lent: &mut Lent) -> Reached {
             if bits >> 27 & 15 == 0 {
                 curves_len = (bits >> 32) as usize % CURVES_LENGTH;
             }
-            let (lent_bundle, lent_curves) = (&bundle[..bundle_len], &curves[..curves_len]);
-            let ours = proved::feed(lent_bundle, lent_curves, core, &event.bytes());
-            let (told, outputs) = feed(&mut reached.tally, filter, lent_bundle, lent_curves, event);
+            let decays_len = if bits >> 58 & 31 == 0 { (bits >> 48) as usize % 24 } else { 24 };
+            let lent = [&bundle[..bundle_len], &curves[..curves_len], &some_decays(&mut random)[..decays_len]];
+            let ours = proved::feed(lent, core, &event.bytes());
+            let (told, outputs) = feed(&mut reached.tally, filter, lent, event);
             bundle[header_byte] = header;
             if let Some(entry) = whole {
                 let spoilt = if event.kind == 4 { &mut *curves } else { &mut *bundle };
@@ -790,34 +826,39 @@ fn handed_in(lent: &mut Lent) -> Reached {
 }
 
 /// The order of the causes that an event on a core may have (docs/FORMATS.md).
-const ORDER: [u32; 7] = [1, 2, 4, 10, 5, 3, 6];
+const ORDER: [u32; 8] = [1, 2, 4, 10, 12, 5, 3, 6];
 
 /// Every set of causes, on every kind of event: the first cause that the kind looks for is answered. A write or a reset has no look at sum, energy
-/// and what a sample reads.
+/// and what a sample reads, and of the writes the mode's alone may leave a charge that is not finite.
 fn causes(lent: &mut Lent) -> Reached {
     let (mut reached, mut random) = (Reached::default(), Random(44));
-    let Lent { bundle, curves, filter } = lent;
-    for turn in 0..128 * 6 * 40 {
-        let (set, kind, bits) = (turn % 128, (turn / 128 % 6) as u8, random.bits());
+    let Lent { bundle, curves, filter, .. } = lent;
+    for turn in 0..256 * 6 * 40 {
+        let (set, kind, bits) = (turn % 256, (turn / 256 % 6) as u8, random.bits());
         let has = |cause: u32| ORDER.iter().zip(0..).any(|(&number, bit)| number == cause && set >> bit & 1 == 1);
-        let looks_for: &[u32] = if kind == 4 { &ORDER } else { &[1, 2, 4, 10, 3] };
+        let looks_for: &[u32] = match kind {
+            3 => &[1, 2, 4, 10, 12, 3, 6],
+            4 => &ORDER,
+            _ => &[1, 2, 4, 10, 12, 3],
+        };
         put(filter, &valid_block(&mut random));
         *filter.state() = IntegratorState { band_state: 0.5, low_state: -0.25, filter_source_energy: 0.125 };
         if has(6) {
             (filter.state().band_state, filter.state().low_state) = (f32::MAX, f32::MIN);
         }
+        filter.transients().volume_conductance_code = if has(6) { f32::MAX } else { tame(&mut random, 16.0) };
         // The mode's value selects the low-pass alone, so that its write reads an entry.
         let value = if kind == 3 { 0x10 | bits as u8 & 0x8f } else { bits as u8 };
         let sum = if has(5) && bits >> 8 & 1 == 0 { f32::NAN } else { tame(&mut random, 4.0) };
         let energy = if has(5) && bits >> 8 & 1 == 1 { f32::INFINITY } else { tame(&mut random, 2.0) };
         let event = Event { kind, value, sum, energy };
         let before = parts(filter);
-        let outputs = feed(&mut Tally::default(), filter, bundle, curves, event).1;
+        let outputs = play(filter, &event.bytes()).unwrap_or_default();
         let after = parts(filter);
         let place = if kind == 4 { 0 } else { write_places(&after.0, kind)[0] };
         put_back(filter, before);
         let place = if kind == 4 { sample_places(filter, event).0[0] } else { place };
-        let (_, _, topology, control) = filter.parts();
+        let (_, _, transients, topology, control) = filter.parts();
         match if has(10) { bits >> 16 & 7 } else { 8 } {
             1 => topology.filter_input_count = 5,
             2 => topology.filter_output_count = 4,
@@ -825,6 +866,7 @@ fn causes(lent: &mut Lent) -> Reached {
             4 => topology.mixer_input_count = usize::MAX,
             5 => topology.summer_input_reciprocal = f32::NAN,
             6 => control.damping = f32::NAN,
+            7 => set_transient(transients, (bits >> 32) as usize % 10, f32::NAN),
             8 => {}
             _ => filter.registers().cutoff = 2048,
         }
@@ -836,7 +878,12 @@ fn causes(lent: &mut Lent) -> Reached {
         }
         let bundle_len = bundle.len() - usize::from(has(1));
         let curves_len = curves.len() - usize::from(has(4));
-        let ours = proved::feed(&bundle[..bundle_len], &curves[..curves_len], core_of(filter), &event.bytes());
+        let mut decays = any_decays(&mut random);
+        if has(12) {
+            decays[3 + 4 * ((bits >> 40) as usize % 6)] = 0x7f;
+        }
+        let lent = [&bundle[..bundle_len], &curves[..curves_len], &decays];
+        let ours = proved::feed(lent, core_of(filter), &event.bytes());
         if has(2) {
             bundle[header_byte] ^= 0x40;
         }

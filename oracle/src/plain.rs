@@ -47,10 +47,10 @@ fn check_bundle(bundle: &[u8]) -> Result<(), Refusal> {
     }
 }
 
-/// The registers of a valid block with band, low and energy; 10 for any other.
-pub fn decode(block: &[u8]) -> Result<State, Refusal> {
-    let [c0, c1, d0, d1, b0, b1, pending, resonance, routing, mode, volume, zero, ..] = *block else { return Err(number(10)) };
-    if block.len() != 24 || pending > 1 || zero != 0 || [resonance, routing, mode, volume].iter().any(|&nibble| nibble > 15) {
+/// The registers of a block; 10 where one is out of its range.
+fn registers_of(block: &[u8; 68]) -> Result<FilterRegisters, Refusal> {
+    let [c0, c1, d0, d1, b0, b1, pending, resonance, routing, mode, volume, zero, ..] = *block;
+    if pending > 1 || zero != 0 || [resonance, routing, mode, volume].iter().any(|&nibble| nibble > 15) {
         return Err(number(10));
     }
     let registers = FilterRegisters {
@@ -63,15 +63,37 @@ pub fn decode(block: &[u8]) -> Result<State, Refusal> {
         mode,
         volume,
     };
-    let floats = [12, 16, 20].map(|place| f32_at(block, place));
-    if registers.cutoff > 2047
-        || registers.cutoff_write_base > 2047
-        || !(-57..=57).contains(&registers.cutoff_dac_displacement_codes)
-        || !floats.iter().all(|x| x.is_finite())
-    {
+    let codes = registers.cutoff.max(registers.cutoff_write_base);
+    if codes > 2047 || !(-57..=57).contains(&registers.cutoff_dac_displacement_codes) {
         return Err(number(10));
     }
-    Ok(State { registers, floats })
+    Ok(registers)
+}
+
+/// The state of a valid block; 10 for any other.
+pub fn decode(block: &[u8]) -> Result<State, Refusal> {
+    let Ok(block) = <&[u8; 68]>::try_from(block) else { return Err(number(10)) };
+    let registers = registers_of(block)?;
+    let floats = [12, 16, 20].map(|place| f32_at(block, place));
+    let transients = std::array::from_fn(|index| f32_at(block, 24 + 4 * index));
+    let pulse_pending = match block[64..] {
+        [pending @ 0..=1, 0, 0, 0] => pending == 1,
+        _ => return Err(number(10)),
+    };
+    if floats.iter().chain(&transients).all(|x| x.is_finite()) {
+        Ok(State { registers, floats, transients, pulse_pending })
+    } else {
+        Err(number(10))
+    }
+}
+
+/// Six numbers from 0 to 1, -0.0 among them; 12 for anything else.
+pub fn check_decays(decays: &[u8]) -> Result<(), Refusal> {
+    if decays.len() == 24 && decays.chunks_exact(4).all(|bits| (0.0..=1.0).contains(&f32_at(bits, 0))) {
+        Ok(())
+    } else {
+        Err(number(12))
+    }
 }
 
 /// The events of a readable script, 12 bytes each; 7 for any other.
@@ -88,9 +110,35 @@ pub fn check_script(script: &[u8]) -> Result<std::slice::ChunksExact<'_, u8>, Re
 
 // ---- the machine
 
+/// The transients are the ten floats of the block from byte 24 on.
 pub struct State {
     pub registers: FilterRegisters,
     pub floats: [f32; 3],
+    pub transients: [f32; 10],
+    pub pulse_pending: bool,
+}
+
+impl State {
+    fn start() -> Self {
+        State { registers: FilterRegisters::new(), floats: [0.0; 3], transients: [0.0; 10], pulse_pending: false }
+    }
+
+    fn encode(&self) -> [u8; 68] {
+        let mut bytes = block(&self.registers, self.floats.map(f32::to_bits));
+        bytes[24..64].copy_from_slice(self.transients.map(f32::to_le_bytes).as_flattened());
+        bytes[64] = self.pulse_pending.into();
+        bytes
+    }
+
+    /// The part of `write_mode_and_volume` that charges: the step of the conductance goes onto fast and slow, and the new code is kept.
+    fn charge(&mut self, volume: u8) {
+        let [fast, slow, _, _, _, code, ..] = &mut self.transients;
+        let next = volume_dac_conductance_code(volume);
+        let step = (*code - next) / volume_dac_conductance_code(15);
+        *fast += step * SID_VOLUME_TRANSITION_FAST_CHARGE_FULL_SCALE;
+        *slow += step * SID_VOLUME_TRANSITION_SLOW_CHARGE_FULL_SCALE;
+        *code = next;
+    }
 }
 
 pub fn topology_of(state: &State) -> MixingTopology {
@@ -299,7 +347,7 @@ impl<'a> Machine<'a> {
             state.floats = floats;
             return Ok(Some(outputs));
         }
-        let mut next = State { registers: FilterRegisters { ..state.registers }, floats: state.floats };
+        let mut next = State { registers: FilterRegisters { ..state.registers }, ..*state };
         let registers = &mut next.registers;
         match kind {
             0 => {
@@ -315,22 +363,29 @@ impl<'a> Machine<'a> {
                 registers.cutoff_low_pending = false;
             }
             2 => (registers.resonance, registers.routing) = (value / 16, value % 16),
-            3 => (registers.mode, registers.volume) = (value / 16, value % 16),
-            _ => next = State { registers: FilterRegisters::new(), floats: [0.0; 3] },
+            3 => {
+                (registers.mode, registers.volume) = (value / 16, value % 16);
+                next.charge(value % 16);
+            }
+            _ => next = State::start(),
         }
         self.controls(&next.registers)?;
+        if !next.transients.iter().all(|x| x.is_finite()) {
+            return Err(number(6));
+        }
         *state = next;
         Ok(None)
     }
 
-    /// A run: the order is 1, 2, 4, 10, 7, 8, the start's controls, then event by event.
-    pub fn run(&mut self, bytes: &mut [u8], script: &[u8], output: &mut [u8]) -> Answer {
+    /// A run: the order is 1, 2, 4, 10, 12, 7, 8, the start's controls, then event by event. No event reads the decays.
+    pub fn run(&mut self, bytes: &mut [u8], decays: &[u8], script: &[u8], output: &mut [u8]) -> Answer {
         let answer = |(number, buffer, place): Refusal, events, samples| Answer { number, events, samples, buffer, place };
         let started = check_bundle(self.bundle).and_then(|()| {
             if self.curves.len() != CURVES_LENGTH {
                 return Err(number(4));
             }
             let state = decode(bytes)?;
+            check_decays(decays)?;
             let events = check_script(script)?;
             if output.len() < 16 * events.clone().filter(|event| event[0] == 4).count() {
                 return Err(number(8));
@@ -358,7 +413,7 @@ impl<'a> Machine<'a> {
             }
             done += 1;
         }
-        bytes.copy_from_slice(&block(&state.registers, state.floats.map(f32::to_bits)));
+        bytes.copy_from_slice(&state.encode());
         answer(end, done, samples)
     }
 }

@@ -301,13 +301,13 @@ fn flawed_samples(beside: &mut Beside) -> Tally {
         }
         let bits = random.bits();
         if bits % 16 == 0 {
-            block[(bits >> 8) as usize % 24] = (bits >> 16) as u8;
+            block[(bits >> 8) as usize % 68] = (bits >> 16) as u8;
         }
         let header = (bits >> 24) as usize % 56;
         bundle[header] ^= u8::from(bits >> 32 & 15 == 0);
         let cut = |length: usize, bits: u64| if bits & 15 == 0 { length - 1 - (bits >> 4) as usize % 8 } else { length };
         let lent = [&bundle[..cut(BUNDLE_LENGTH, bits >> 40)], &curves[..cut(CURVES_LENGTH, bits >> 48)]];
-        let length = cut(24, bits >> 56);
+        let length = if turn % 64 == 0 { 24 } else { cut(68, bits >> 56) };
         beside.sample_agrees(&mut tally, lent, &block[..length], sum, energy);
         bundle[header] = beside.bundle[header];
         for (buffer, place) in damaged {

@@ -1,13 +1,14 @@
 //! Runs through the C interface. Answers and every byte of state and output beside the plain machine of plain.rs; on the bundle as it is,
-//! what was done also beside the Rust's filter, which keeps its topology and controls from write to write; and every script whose output
-//! has room also in pieces. The room of state and output lies between bytes that must stay.
+//! what was done also event by event beside the Rust's filter, which keeps its topology and controls from write to write; and every script
+//! whose output has room also in pieces. The room of state and output lies between bytes that must stay.
 
+use crate::charges::{any_decays, fill, is_finite};
 use crate::filter::Filter;
-use crate::kept::{filter_block, play};
+use crate::kept::{filter_block, play, put};
 use crate::numbers::{Random, Tally, DAMAGES};
-use crate::plain::{check_script, decode, Machine, State, BUNDLE_LENGTH, CURVES_LENGTH};
+use crate::plain::{check_script, Machine, BUNDLE_LENGTH, CURVES_LENGTH};
 use crate::surface::proved::{self, Answer};
-use crate::surface::{curves_of, data};
+use crate::surface::{curves_of, data, number};
 
 pub fn compare() -> Vec<(&'static str, Tally)> {
     let mut beside = Beside::new();
@@ -15,17 +16,20 @@ pub fn compare() -> Vec<(&'static str, Tally)> {
         ("runs, random scripts", random_scripts(&mut beside)),
         ("runs, all scripts of up to two events", small_scripts(&mut beside)),
         ("runs, state blocks", blocks(&mut beside)),
+        ("runs, decays", decays(&mut beside)),
+        ("runs, the order of 10, 12, 7 and 8", order(&mut beside)),
         ("runs, unreadable scripts", unreadable(&mut beside)),
         ("runs, output lengths", outputs(&mut beside)),
         ("runs, wrong lengths and headers", wrong_buffers(&mut beside)),
         ("runs, damaged entries", damaged(&mut beside)),
+        ("runs, an unusable entry and a charge that overflows", entry_and_charge(&mut beside)),
         ("runs, several flaws at once", flaws(&mut beside)),
         ("runs, what is lent to be read and each number reached", beside.ended()),
     ];
     subjects.push(("runs, cut into pieces", beside.cut));
     subjects.push(("runs, beside the Rust's filter", beside.kept));
     println!("runs: {} with {} events and {} samples done", beside.runs, beside.events, beside.samples);
-    println!("runs by number: {}", (0..11).map(|number| format!("{number}: {}", beside.numbers[number])).collect::<Vec<_>>().join(", "));
+    println!("runs by number: {}", (0..13).map(|number| format!("{number}: {}", beside.numbers[number])).collect::<Vec<_>>().join(", "));
     subjects
 }
 
@@ -39,13 +43,13 @@ fn pattern(length: usize) -> Vec<u8> {
 }
 
 /// A room with its margins, filled with a pattern.
-fn framed(room: &[u8]) -> Vec<u8> {
+pub fn framed(room: &[u8]) -> Vec<u8> {
     let mut frame = pattern(room.len() + 2 * MARGIN);
     frame[MARGIN..MARGIN + room.len()].copy_from_slice(room);
     frame
 }
 
-fn room(frame: &mut [u8]) -> &mut [u8] {
+pub fn room(frame: &mut [u8]) -> &mut [u8] {
     let end = frame.len() - MARGIN;
     &mut frame[MARGIN..end]
 }
@@ -73,12 +77,12 @@ fn samples_of(events: &[[u8; 12]]) -> usize {
     events.iter().filter(|event| event[0] == 4).count()
 }
 
-fn script_of(events: &[[u8; 12]]) -> Vec<u8> {
+pub fn script_of(events: &[[u8; 12]]) -> Vec<u8> {
     let header = [events.len() as u32, 8].map(u32::to_le_bytes);
     [header.as_flattened(), events.as_flattened()].concat()
 }
 
-/// The bytes that are lent, as they are, and the counts of all runs.
+/// Bundle and curves, as they are, and the counts of all runs.
 struct Beside {
     bundle: Vec<u8>,
     curves: Vec<u8>,
@@ -89,7 +93,7 @@ struct Beside {
     runs: u64,
     events: u64,
     samples: u64,
-    numbers: [u64; 11],
+    numbers: [u64; 13],
 }
 
 impl Beside {
@@ -105,21 +109,21 @@ impl Beside {
             runs: 0,
             events: 0,
             samples: 0,
-            numbers: [0; 11],
+            numbers: [0; 13],
         }
     }
 
     /// One run on both sides, and where the script is readable and the output has room also in pieces; what the proved one left.
-    fn run(&mut self, tally: &mut Tally, lent: [&[u8]; 2], block: &[u8], script: &[u8], length: usize) -> Left {
-        let ours = left(block, length, |state, output| proved::run(lent[0], lent[1], state, script, output));
-        let theirs = left(block, length, |state, output| Machine::new(lent[0], lent[1]).run(state, script, output));
+    fn run(&mut self, tally: &mut Tally, lent: [&[u8]; 3], block: &[u8], script: &[u8], length: usize) -> Left {
+        let ours = left(block, length, |state, output| proved::run(lent, state, script, output));
+        let theirs = left(block, length, |state, output| Machine::new(lent[0], lent[1]).run(state, lent[2], script, output));
         tally.same(ours.answer, theirs.answer);
         tally.same(&ours.block, &theirs.block);
         tally.same(&ours.output, &theirs.output);
         self.runs += 1;
         self.events += u64::from(ours.answer.events);
         self.samples += u64::from(ours.answer.samples);
-        self.numbers[(ours.answer.number as usize).min(10)] += 1;
+        self.numbers[(ours.answer.number as usize).min(12)] += 1;
         if check_script(script).is_ok() && length >= 16 * samples_of(events_of(script)) {
             let cuts = any_cuts(&mut self.random, events_of(script).len());
             self.cut(lent, block, events_of(script), &cuts, &ours);
@@ -127,29 +131,37 @@ impl Beside {
         ours
     }
 
-    /// A run on the bundle and the curves as they are.
-    fn whole(&mut self, tally: &mut Tally, block: &[u8], script: &[u8], length: usize) -> Left {
+    /// A run on the bundle and the curves as they are, with some decays.
+    fn decayed(&mut self, tally: &mut Tally, decays: &[u8], block: &[u8], script: &[u8], length: usize) -> Left {
         let (bundle, curves) = (std::mem::take(&mut self.bundle), std::mem::take(&mut self.curves));
-        let ours = self.run(tally, [&bundle, &curves], block, script, length);
+        let ours = self.run(tally, [&bundle, &curves, decays], block, script, length);
         (self.bundle, self.curves) = (bundle, curves);
         ours
     }
 
-    /// A readable script from a valid block with room for its samples and some bytes more, then beside the Rust's filter.
-    fn readable(&mut self, tally: &mut Tally, block: &[u8], events: &[[u8; 12]]) {
-        let ours = self.whole(tally, block, &script_of(events), 16 * samples_of(events) + (self.runs % 24) as usize);
-        self.beside_filter(block, events, &ours);
+    /// The same with any valid decays.
+    fn whole(&mut self, tally: &mut Tally, block: &[u8], script: &[u8], length: usize) -> Left {
+        let decays = any_decays(&mut self.random);
+        self.decayed(tally, &decays, block, script, length)
     }
 
-    /// Pieces between the cuts, each a script of its own that goes on from the block the last one left; none after a stop. They end where
-    /// the uncut run does.
-    fn cut(&mut self, [bundle, curves]: [&[u8]; 2], block: &[u8], events: &[[u8; 12]], cuts: &[usize], uncut: &Left) {
+    /// A readable script from a valid block with room for its samples and some bytes more, then beside the Rust's filter.
+    fn readable(&mut self, tally: &mut Tally, block: &[u8; 68], events: &[[u8; 12]]) {
+        let decays = any_decays(&mut self.random);
+        let length = 16 * samples_of(events) + (self.runs % 24) as usize;
+        let ours = self.decayed(tally, &decays, block, &script_of(events), length);
+        self.beside_filter(&decays, block, events, &ours);
+    }
+
+    /// Pieces between the cuts, each a script of its own that goes on from the block the last one left, with the same decays; none after a
+    /// stop. They end where the uncut run does.
+    fn cut(&mut self, lent: [&[u8]; 3], block: &[u8], events: &[[u8; 12]], cuts: &[usize], uncut: &Left) {
         let (mut block, mut written, mut done, mut samples) = (framed(block), vec![], 0, 0);
         let (mut from, mut last) = (0, uncut.answer);
         for end in cuts.iter().copied().chain([events.len()]) {
             let piece = &events[from..end];
             let output = &mut pattern(16 * samples_of(piece));
-            last = proved::run(bundle, curves, room(&mut block), &script_of(piece), output);
+            last = proved::run(lent, room(&mut block), &script_of(piece), output);
             written.extend(output.iter().take(16 * last.samples as usize));
             (done, samples) = (done + last.events, samples + last.samples);
             if last.number != 0 {
@@ -162,38 +174,37 @@ impl Beside {
         self.cut.same(Some(&written[..]), uncut.output.get(MARGIN..MARGIN + 16 * uncut.answer.samples as usize));
     }
 
-    /// The Rust's filter in the block's state: the events that were done, and that a 6 is where its numbers are no longer finite.
-    fn beside_filter(&mut self, before: &[u8], events: &[[u8; 12]], ours: &Left) {
-        let Ok(State { registers, floats }) = decode(before) else { return };
-        let filter = &mut self.filter;
-        let routing = registers.resonance << 4 | registers.routing;
-        *filter.registers() = registers;
-        filter.write_signal_routing(routing);
-        let kept = filter.state();
-        [kept.band_state, kept.low_state, kept.filter_source_energy] = floats;
-        let done = ours.answer.events as usize;
+    /// The Rust's filter in the block's state, and the events that were done, each a run of its own too: what every one of them leaves and
+    /// writes is the filter's, and a 6 is where the filter's numbers are no longer finite.
+    fn beside_filter(&mut self, decays: &[u8], before: &[u8; 68], events: &[[u8; 12]], ours: &Left) {
+        let lent = [&self.bundle[..], &self.curves, decays];
+        let (filter, kept) = (&mut self.filter, &mut self.kept);
+        let (mut block, mut row) = (*before, [0; 16]);
         let mut rows = ours.output[MARGIN..].chunks_exact(16);
-        for event in events.iter().take(done) {
+        let (done, rest) = events.split_at(ours.answer.events as usize);
+        put(filter, before);
+        for event in done {
+            kept.same(proved::run(lent, &mut block, &script_of(&[*event]), &mut row).number, 0);
             if let Some(sample) = play(filter, event) {
-                self.kept.same(rows.next(), Some(sample.map(f32::to_le_bytes).as_flattened()));
+                kept.same(&row[..], sample.map(f32::to_le_bytes).as_flattened());
+                kept.same(rows.next(), Some(&row[..]));
             }
+            kept.same(block, filter_block(filter));
         }
-        self.kept.same(&ours.block[MARGIN..MARGIN + 24], &filter_block(filter)[..]);
+        kept.same(&ours.block[MARGIN..MARGIN + 68], &block);
         if ours.answer.number == 6 {
-            let outputs = events.get(done).and_then(|event| play(filter, event)).unwrap_or_default();
-            let kept = filter.state();
-            let finite = [kept.band_state, kept.low_state, kept.filter_source_energy].iter().chain(&outputs).all(|x| x.is_finite());
-            self.kept.same(finite, false);
+            let outputs = rest.first().and_then(|event| play(filter, event)).unwrap_or_default();
+            kept.same(is_finite(&filter_block(filter)) && outputs.iter().all(|x| x.is_finite()), false);
         }
     }
 
-    /// Bundle and curves are as they were, and every number but 9, which is unused, was reached.
+    /// Bundle and curves are as they were, and every number was reached but 9, which is unused, and 11, which is that of voices.
     fn ended(&self) -> Tally {
         let mut tally = Tally::default();
         tally.same(&self.bundle, &data("bundle"));
         tally.same(&self.curves, &curves_of(&self.filter));
         for (number, &count) in self.numbers.iter().enumerate() {
-            tally.same(count > 0, number != 9);
+            tally.same(count > 0, number != 9 && number != 11);
         }
         tally
     }
@@ -215,9 +226,9 @@ fn finite(random: &mut Random) -> f32 {
 }
 
 /// Any valid block; the floats of the filter's size, zeros of either sign, near the saturation's overflow, or any finite ones.
-pub fn any_block(random: &mut Random) -> [u8; 24] {
+pub fn any_block(random: &mut Random) -> [u8; 68] {
     let bits = random.bits();
-    let mut bytes = [0; 24];
+    let mut bytes = [0; 68];
     let code = |bits: u64| [0, 2047, bits as u16 % 2048, bits as u16 % 2048][(bits >> 12) as usize % 4];
     bytes[0..2].copy_from_slice(&code(bits).to_le_bytes());
     bytes[2..4].copy_from_slice(&(((bits >> 14) % 115) as i16 - 57).to_le_bytes());
@@ -233,12 +244,13 @@ pub fn any_block(random: &mut Random) -> [u8; 24] {
         2 => [between(random, -8.0e12, 8.0e12), between(random, -8.0e12, 8.0e12), between(random, 0.0, 1.0)],
         _ => [between(random, -1.5, 1.5), between(random, -1.5, 1.5), between(random, 0.0, 1.0)],
     };
-    bytes[12..].copy_from_slice(floats.map(f32::to_le_bytes).as_flattened());
+    bytes[12..24].copy_from_slice(floats.map(f32::to_le_bytes).as_flattened());
+    fill(&mut bytes, random);
     bytes
 }
 
 /// A random event. What its kind does not use is any bytes. Wild floats are any, and now and then not finite.
-fn any_event(random: &mut Random, wild: bool) -> [u8; 12] {
+pub fn any_event(random: &mut Random, wild: bool) -> [u8; 12] {
     let bits = random.bits();
     let kind = match bits % 64 {
         0..=5 => 0,
@@ -256,7 +268,7 @@ fn any_event(random: &mut Random, wild: bool) -> [u8; 12] {
     event(kind, (bits >> 8) as u8, floats)
 }
 
-fn event(kind: u8, value: u8, [sum, energy]: [f32; 2]) -> [u8; 12] {
+pub fn event(kind: u8, value: u8, [sum, energy]: [f32; 2]) -> [u8; 12] {
     let mut event = [kind, value, 0, 0, 0, 0, 0, 0, 0, 0, 0, 0];
     event[4..8].copy_from_slice(&sum.to_le_bytes());
     event[8..].copy_from_slice(&energy.to_le_bytes());
@@ -328,8 +340,8 @@ fn letters() -> Vec<[u8; 12]> {
 }
 
 /// The states they start from: the starting value, and others about the ends of what a block holds.
-fn starts() -> Vec<[u8; 24]> {
-    let mut starts = vec![[0; 24]];
+fn starts() -> Vec<[u8; 68]> {
+    let (mut starts, mut random) = (vec![[0; 68]], Random(47));
     let registers: [(u16, i16, u16, [u8; 5]); 5] = [
         (2047, 57, 0, [1, 15, 15, 7, 15]),
         (0, -57, 2047, [0, 0, 1, 1, 0]),
@@ -340,12 +352,13 @@ fn starts() -> Vec<[u8; 24]> {
     let floats = [[-0.0, 0.0, -0.0], [0.5, -0.25, 0.1], [8.0e12, -8.0e12, 1.0], [f32::MAX, f32::MIN, f32::MAX], [0.0, 0.0, -0.005]];
     for (cutoff, displacement, base, bytes) in registers {
         for floats in floats {
-            let mut start = [0; 24];
+            let mut start = [0; 68];
             start[0..2].copy_from_slice(&cutoff.to_le_bytes());
             start[2..4].copy_from_slice(&displacement.to_le_bytes());
             start[4..6].copy_from_slice(&base.to_le_bytes());
             start[6..11].copy_from_slice(&bytes);
-            start[12..].copy_from_slice(floats.map(f32::to_le_bytes).as_flattened());
+            start[12..24].copy_from_slice(floats.map(f32::to_le_bytes).as_flattened());
+            fill(&mut start, &mut random);
             starts.push(start);
         }
     }
@@ -372,13 +385,14 @@ fn short_script(random: &mut Random) -> Vec<[u8; 12]> {
     (0..random.bits() % 12).map(|_| any_event(random, false)).collect()
 }
 
-/// Every byte of a block with every value, every length about 24, and floats that are not finite.
+/// Every byte of a block with every value, every length up to past twice its own, that of 24 bytes among them, and floats that are not
+/// finite.
 fn blocks(beside: &mut Beside) -> Tally {
     let (mut tally, mut random) = (Tally::default(), Random(41));
-    for start in [[0; 24], any_block(&mut random), any_block(&mut random)] {
+    for start in [[0; 68], any_block(&mut random), any_block(&mut random)] {
         let events = short_script(&mut random);
         let (script, length) = (script_of(&events), 16 * samples_of(&events));
-        for place in 0..24 {
+        for place in 0..68 {
             for value in 0..=255 {
                 let mut block = start;
                 block[place] = value;
@@ -392,16 +406,92 @@ fn blocks(beside: &mut Beside) -> Tally {
                 beside.whole(&mut tally, &block, &script, length);
             }
         }
-        for place in [12, 16, 20] {
+        for place in (12..64).step_by(4) {
             for bits in [0x7f80_0000, 0xff80_0000, 0x7f80_0001, 0x7fc0_0000, 0xffff_ffff, 0x7f7f_ffff, 0xff7f_ffff, 1, 0x8000_0000u32] {
                 let mut block = start;
                 block[place..place + 4].copy_from_slice(&bits.to_le_bytes());
                 beside.whole(&mut tally, &block, &script, length);
             }
         }
-        for size in 0..=49 {
+        for size in 0..=140 {
             let block: Vec<u8> = start.iter().copied().cycle().take(size).collect();
-            beside.whole(&mut tally, &block, &script, length);
+            let ours = beside.whole(&mut tally, &block, &script, length);
+            tally.same(ours.answer.number == 10, size != 68);
+        }
+    }
+    tally
+}
+
+/// What one of the six decays is set to: five that it may be, and what it may not.
+const DECAYS: [u32; 16] = [
+    0x0000_0000, // the zeros
+    0x8000_0000,
+    0x0000_0001,
+    0x3f7f_ffff, // just below 1
+    0x3f80_0000,
+    0x3f80_0001, // just above 1
+    0x8000_0001, // just below 0
+    0x8080_0000,
+    0xbf80_0000,
+    0x7f7f_ffff, // the largest floats
+    0xff7f_ffff,
+    0x7f80_0000, // the infinities
+    0xff80_0000,
+    0x7f80_0001, // NaNs
+    0x7fc0_0000,
+    0xffff_ffff,
+];
+
+/// Each of the six with each of these, every byte of them with every value, and every length about 24.
+fn decays(beside: &mut Beside) -> Tally {
+    let (mut tally, mut random) = (Tally::default(), Random(48));
+    for start in [[0; 24], any_decays(&mut random), any_decays(&mut random)] {
+        let (block, events) = (any_block(&mut random), short_script(&mut random));
+        let (script, length) = (script_of(&events), 16 * samples_of(&events));
+        for place in (0..24).step_by(4) {
+            for (index, bits) in DECAYS.into_iter().enumerate() {
+                let mut decays = start;
+                decays[place..place + 4].copy_from_slice(&bits.to_le_bytes());
+                let ours = beside.decayed(&mut tally, &decays, &block, &script, length);
+                tally.same(ours.answer.number == 12, index >= 5);
+            }
+        }
+        for place in 0..24 {
+            for value in 0..=255 {
+                let mut decays = start;
+                decays[place] = value;
+                beside.decayed(&mut tally, &decays, &block, &script, length);
+            }
+        }
+        for size in 0..=72 {
+            let decays: Vec<u8> = start.iter().copied().cycle().take(size).collect();
+            let ours = beside.decayed(&mut tally, &decays, &block, &script, length);
+            tally.same(ours.answer.number == 12, size != 24);
+        }
+    }
+    tally
+}
+
+/// Every set of a wrong block, wrong decays, an unreadable script and a short output: the first of them is answered.
+fn order(beside: &mut Beside) -> Tally {
+    let (mut tally, mut random) = (Tally::default(), Random(49));
+    for turn in 0..16 * 500 {
+        let (mut block, mut decays) = (any_block(&mut random), any_decays(&mut random));
+        let mut events = short_script(&mut random);
+        events.push(event(4, 0, [0.5, 0.5]));
+        let (mut script, mut length, bits) = (script_of(&events), 16 * samples_of(&events), random.bits());
+        let flaws: Vec<u32> = (0..4).filter(|bit| turn >> bit & 1 == 1).map(|bit| [10, 12, 7, 8][bit]).collect();
+        for flaw in &flaws {
+            match flaw {
+                10 => block[[11, 65, 66, 67][bits as usize % 4]] = 1,
+                12 => decays[(bits >> 8) as usize % 6 * 4 + 3] = 0x7f,
+                7 => script[4] = 9,
+                _ => length -= 1,
+            }
+        }
+        let ours = beside.decayed(&mut tally, &decays, &block, &script, length);
+        if let Some(&first) = flaws.first() {
+            tally.same(ours.answer, number(first));
         }
     }
     tally
@@ -436,11 +526,11 @@ fn unreadable(beside: &mut Beside) -> Tally {
     }
     // One event too many, and the most with the last one unreadable.
     let mut events = vec![event(4, 0, [0.5, 0.5]); 65_537];
-    beside.whole(&mut tally, &[0; 24], &script_of(&events), 16 * 65_537);
+    beside.whole(&mut tally, &[0; 68], &script_of(&events), 16 * 65_537);
     events.pop();
     for (place, value) in [(0, 6), (2, 1), (3, 128), (0, 255)] {
         let byte = std::mem::replace(&mut events[65_535][place], value);
-        beside.whole(&mut tally, &[0; 24], &script_of(&events), 16 * 65_536);
+        beside.whole(&mut tally, &[0; 68], &script_of(&events), 16 * 65_536);
         events[65_535][place] = byte;
     }
     tally
@@ -470,11 +560,12 @@ fn wrong_buffers(beside: &mut Beside) -> Tally {
     let (mut bundle, mut curves) = (beside.bundle.clone(), beside.curves.clone());
     let mut both = |bundle: &[u8], curves: &[u8]| {
         let (mut block, events, bits) = (any_block(&mut random), short_script(&mut random), random.bits());
-        let mut script = script_of(&events);
-        block[11] = u8::from(bits % 4 == 0);
+        let (mut decays, mut script) = (any_decays(&mut random), script_of(&events));
+        block[[11, 67][(bits >> 5) as usize % 2]] = u8::from(bits % 4 == 0);
+        decays[3] |= u8::from(bits >> 6 & 3 == 0) << 6;
         script[4] += u8::from(bits >> 2 & 3 == 0);
         let a_sample = if bits >> 4 & 1 == 0 { 16 } else { 15 };
-        beside.run(&mut tally, [bundle, curves], &block, &script, a_sample * samples_of(&events));
+        beside.run(&mut tally, [bundle, curves, &decays], &block, &script, a_sample * samples_of(&events));
     };
     for place in 0..56 {
         let byte = bundle[place];
@@ -531,7 +622,7 @@ fn entry_of<'a>(buffer: u32, place: usize, bundle: &'a mut [u8], curves: &'a mut
 fn places(bundle: &[u8], curves: &[u8], block: &[u8], events: &[[u8; 12]]) -> Vec<(u32, usize)> {
     let mut machine = Machine::new(bundle, curves);
     machine.read = Some(vec![]);
-    machine.run(&mut block.to_vec(), &script_of(events), &mut vec![0; 16 * events.len()]);
+    machine.run(&mut block.to_vec(), &[0; 24], &script_of(events), &mut vec![0; 16 * events.len()]);
     machine.read.unwrap_or_default()
 }
 
@@ -544,11 +635,33 @@ fn damaged(beside: &mut Beside) -> Tally {
         let events: Vec<[u8; 12]> = (0..1 + random.bits() % 24).map(|_| any_event(&mut random, false)).collect();
         let read = places(&bundle, &curves, &block, &events);
         let damage = Damage::done(&mut random, &read, &mut bundle, &mut curves);
-        beside.run(&mut tally, [&bundle, &curves], &block, &script_of(&events), 16 * samples_of(&events));
+        let decays = any_decays(&mut random);
+        beside.run(&mut tally, [&bundle, &curves, &decays], &block, &script_of(&events), 16 * samples_of(&events));
         damage.undone(&mut bundle, &mut curves);
     }
     tally.same(bundle == beside.bundle, true);
     tally.same(curves == beside.curves, true);
+    tally
+}
+
+/// Mode writes that would overflow a charge, on the whole bundle and with the entry unusable that they alone read: the entry is judged first.
+fn entry_and_charge(beside: &mut Beside) -> Tally {
+    let (mut tally, mut random) = (Tally::default(), Random(50));
+    let (mut bundle, curves) = (beside.bundle.clone(), beside.curves.clone());
+    for turn in 0..600 {
+        let (mut block, bits, decays) = (any_block(&mut random), random.bits(), any_decays(&mut random));
+        block[9] = 0;
+        block[44..48].copy_from_slice(&[f32::MAX, f32::MIN][turn % 2].to_le_bytes());
+        let events = [event(3, [0x10, 0x20, 0x40][turn % 3] | bits as u8 & 0x8f, [0.0; 2])];
+        let place = places(&bundle, &curves, &block, &events).last().expect("an entry").1;
+        let ours = beside.run(&mut tally, [&bundle, &curves, &decays], &block, &script_of(&events), 0);
+        tally.same(ours.answer, number(6));
+        let entry: [u8; 4] = bundle[place..place + 4].try_into().unwrap();
+        bundle[place..place + 4].copy_from_slice(&DAMAGES[4 + turn % 8].to_le_bytes());
+        let ours = beside.run(&mut tally, [&bundle, &curves, &decays], &block, &script_of(&events), 0);
+        tally.same(ours.answer, Answer { place: place as u32, ..number(3) });
+        bundle[place..place + 4].copy_from_slice(&entry);
+    }
     tally
 }
 
@@ -572,12 +685,16 @@ fn flaws(beside: &mut Beside) -> Tally {
             script[at] ^= 1 << (bits >> 20 & 7);
         }
         if has(2) {
-            block[(bits >> 48) as usize % 24] ^= 1 << (bits >> 24 & 7);
+            block[(bits >> 48) as usize % 68] ^= 1 << (bits >> 24 & 7);
+        }
+        let mut decays = any_decays(&mut random);
+        if has(6) {
+            decays[(bits >> 56) as usize % 24] ^= 1 << (bits >> 28 & 7);
         }
         let bundle_length = BUNDLE_LENGTH - usize::from(has(3));
         let curves_length = CURVES_LENGTH - usize::from(has(4));
         let length = (16 * samples_of(&events)).saturating_sub(usize::from(has(5)));
-        beside.run(&mut tally, [&bundle[..bundle_length], &curves[..curves_length]], &block, &script, length);
+        beside.run(&mut tally, [&bundle[..bundle_length], &curves[..curves_length], &decays], &block, &script, length);
         bundle[header] ^= 1;
         damage.undone(&mut bundle, &mut curves);
     }

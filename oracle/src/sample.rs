@@ -1,8 +1,9 @@
 //! Samples after random register writes: the Rust on what it keeps beside the proved code on what the state's block gives.
 
+use crate::charges::fill;
 use crate::filter::Filter;
+use crate::kept::{block, set};
 use crate::numbers::{Random, Tally};
-use crate::state::block;
 use crate::surface;
 
 mod proved {
@@ -80,13 +81,14 @@ fn samples() -> Tally {
             0 => (random.float(), random.float()),
             _ => ((random.bits() as u32 as f32) / 1_073_741_824.0, (random.bits() as u32 as f32) / 2_147_483_648.0),
         };
-        let ours = proved::step(&bundle, &curves, &block(filter.registers(), state.map(f32::to_bits)), sum, energy);
+        let mut block = block(filter.registers(), state.map(f32::to_bits));
+        fill(&mut block, &mut random);
+        set(&mut filter, &block);
+        let ours = proved::step(&bundle, &curves, &block, sum, energy);
         if !(sum.is_finite() && energy.is_finite()) {
             tally.same([ours.number, ours.buffer, ours.place], [5, 0, 0]);
             continue;
         }
-        let kept = filter.state();
-        [kept.band_state, kept.low_state, kept.filter_source_energy] = state;
         let theirs = filter.sample(sum, energy);
         let kept = filter.state();
         let after = [kept.band_state, kept.low_state, kept.filter_source_energy];

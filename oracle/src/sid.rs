@@ -87,13 +87,19 @@ mod filter {
             &mut self.state
         }
 
+        pub(super) fn transients(&mut self) -> &mut TransientState {
+            &mut self.transients
+        }
+
         pub(super) fn topology(&mut self) -> &mut MixingTopology {
             &mut self.topology
         }
 
         /// What a core has.
-        pub(super) fn parts(&mut self) -> (&mut FilterRegisters, &mut IntegratorState, &mut MixingTopology, &mut ControlCache) {
-            (&mut self.registers, &mut self.state, &mut self.topology, &mut self.control)
+        pub(super) fn parts(
+            &mut self,
+        ) -> (&mut FilterRegisters, &mut IntegratorState, &mut TransientState, &mut MixingTopology, &mut ControlCache) {
+            (&mut self.registers, &mut self.state, &mut self.transients, &mut self.topology, &mut self.control)
         }
 
         /// The three transfers on the topology and the volume that the filter has.

@@ -12,7 +12,7 @@ use crate::response::normalise_voltage;
 struct Played {
     event: [u8; 12],
     sample: Option<[f32; 4]>,
-    block: [u8; 24],
+    block: [u8; 68],
 }
 
 /// One voice: where in its wave it is, how far it goes in a sample, and its envelope.
@@ -209,7 +209,7 @@ fn pieces(played: &[Played], ends: &[usize]) -> Vec<u8> {
         file.extend(words.iter().flat_map(|word| word.to_le_bytes()));
         file.extend(piece.iter().flat_map(|played| played.event));
         file.extend(samples.as_flattened().iter().flat_map(|value| value.to_le_bytes()));
-        file.extend(if end == 0 { [0; 24] } else { played[end - 1].block });
+        file.extend(if end == 0 { [0; 68] } else { played[end - 1].block });
         from = end;
     }
     file

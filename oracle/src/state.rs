@@ -1,10 +1,13 @@
-//! The register writes beside the Rust's, and blocks and scripts beside an independent check.
+//! The register writes beside the Rust's, and blocks, their widening and scripts beside an independent check.
 
+use crate::charges::fill;
 use crate::control::{ControlCache, FilterRegisters};
 use crate::filter::Filter;
-pub use crate::kept::block;
+use crate::kept::{block, filter_block, play, set};
 use crate::numbers::{Random, Tally};
-use crate::surface;
+use crate::response::volume_dac_conductance_code;
+use crate::run::{any_block, framed, room};
+use crate::surface::{self, number};
 
 pub mod proved {
     #[repr(C)]
@@ -69,6 +72,9 @@ pub fn compare() -> Vec<(&'static str, Tally)> {
         ("routing and mode writes, reset", nibbles(&mut filter)),
         ("controls after random writes", controls(&mut filter)),
         ("state blocks", blocks()),
+        ("widening, every volume", volumes(&mut filter)),
+        ("widening, valid and damaged blocks", widening()),
+        ("widening, every length of block and target", lengths()),
         ("scripts", scripts()),
     ]
 }
@@ -81,53 +87,57 @@ fn write(block: &mut [u8], register: u8, value: u8) {
     unsafe { proved::probe_write(block.as_mut_ptr(), block.len(), register, value) }
 }
 
-/// One write on both sides; registers 0 to 3, else a reset. The floats stay, but for the reset.
-fn both(tally: &mut Tally, filter: &mut Filter, register: u8, value: u8, floats: [u32; 3]) {
-    let mut ours = block(filter.registers(), floats);
+/// One write on both sides; registers 0 to 3, else a reset. A mode write may leave a number that is not finite, and so no valid block.
+fn both(tally: &mut Tally, filter: &mut Filter, register: u8, value: u8) {
+    let mut ours = filter_block(filter);
     write(&mut ours, register, value);
-    match register {
-        0 => filter.write_cutoff_low(value),
-        1 => filter.write_cutoff_high(value),
-        2 => filter.write_signal_routing(value),
-        3 => filter.write_mode_and_volume(value),
-        _ => filter.reset(),
-    }
-    tally.same(ours, block(filter.registers(), if register < 4 { floats } else { [0; 3] }));
+    play(filter, &[register, value, 0, 0, 0, 0, 0, 0, 0, 0, 0, 0]);
+    tally.same(ours, filter_block(filter));
     // A mode write leaves the cached index, which the cutoff writes set, as it is.
-    tally.same(usize::from(effective_cutoff(&ours)), filter.control().effective_cutoff_index);
+    let index = if is_valid(&ours) { filter.control().effective_cutoff_index } else { 65_535 };
+    tally.same(usize::from(effective_cutoff(&ours)), index);
+}
+
+/// The floats and charges of any valid state.
+fn charge(filter: &mut Filter, random: &mut Random) {
+    let mut block = any_block(random);
+    block[..12].copy_from_slice(&filter_block(filter)[..12]);
+    set(filter, &block);
 }
 
 /// A high write from every code, and from every code with each low write pending on it.
 fn cutoff(filter: &mut Filter) -> Tally {
-    let mut tally = Tally::default();
+    let (mut tally, mut random) = (Tally::default(), Random(8));
     for base in 0..2048 {
         for low in 0..=8 {
+            charge(filter, &mut random);
             for value in 0..=255 {
                 let registers = filter.registers();
                 registers.cutoff = base;
                 registers.cutoff_low_pending = false;
                 registers.cutoff_dac_displacement_codes = i16::from(value) % 115 - 57;
                 if low < 8 && value == 0 {
-                    both(&mut tally, filter, 0, low | 0xa8, [0x3f80_0000, 0x8000_0000, 1]);
+                    both(&mut tally, filter, 0, low | 0xa8);
                 } else if low < 8 {
                     filter.write_cutoff_low(low);
                 }
-                both(&mut tally, filter, 1, value, [0x3f80_0000, 0x8000_0000, 1]);
+                both(&mut tally, filter, 1, value);
             }
         }
     }
     tally
 }
 
-/// Every value of the two registers after one another, and resets between.
+/// Every value of the two registers after one another, from other floats and charges each time, and resets between.
 fn nibbles(filter: &mut Filter) -> Tally {
-    let mut tally = Tally::default();
+    let (mut tally, mut random) = (Tally::default(), Random(9));
     for pair in 0..=u16::MAX {
-        both(&mut tally, filter, 2, pair as u8, [pair.into(), 0, 0]);
-        both(&mut tally, filter, 3, (pair >> 8) as u8, [0, pair.into(), 0]);
+        charge(filter, &mut random);
         if pair % 256 == 0 {
-            both(&mut tally, filter, 4, 0, [1, 2, 3]);
+            both(&mut tally, filter, 5, 0);
         }
+        both(&mut tally, filter, 2, pair as u8);
+        both(&mut tally, filter, 3, (pair >> 8) as u8);
     }
     tally
 }
@@ -136,6 +146,7 @@ fn nibbles(filter: &mut Filter) -> Tally {
 fn controls(filter: &mut Filter) -> Tally {
     let bundle = surface::data("bundle");
     let (mut tally, mut random) = (Tally::default(), Random(7));
+    filter.reset();
     for _ in 0..200_000 {
         let bits = random.bits();
         let value = (bits >> 8) as u8;
@@ -146,7 +157,7 @@ fn controls(filter: &mut Filter) -> Tally {
             12..=14 => filter.write_mode_and_volume(value),
             _ => filter.reset(),
         }
-        let ours = controls_of(&bundle, &block(filter.registers(), [0; 3]));
+        let ours = controls_of(&bundle, &filter_block(filter));
         same_controls(&mut tally, &ours, filter.control());
     }
     tally
@@ -192,7 +203,12 @@ pub fn same_controls(tally: &mut Tally, ours: &proved::Controls, theirs: &Contro
     }
 }
 
-fn is_valid(block: &[u8]) -> bool {
+fn is_finite(bits: &[u8]) -> bool {
+    f32::from_le_bytes(bits.try_into().expect("4 bytes")).is_finite()
+}
+
+/// Of the first 24 bytes, which are the whole of a block without charges.
+fn is_valid_narrow(block: &[u8]) -> bool {
     let word = |at: usize| u16::from_le_bytes([block[at], block[at + 1]]);
     block.len() == 24
         && word(0) <= 2047
@@ -201,40 +217,138 @@ fn is_valid(block: &[u8]) -> bool {
         && block[6] <= 1
         && block[7..11].iter().all(|&nibble| nibble <= 15)
         && block[11] == 0
-        && block[12..].chunks_exact(4).all(|bits| f32::from_le_bytes(bits.try_into().unwrap()).is_finite())
+        && block[12..].chunks_exact(4).all(is_finite)
 }
 
-/// Blocks of every length about 24 with a field or two out of its range, and valid ones: an invalid block has no cutoff and stays as it is.
+fn is_valid(block: &[u8]) -> bool {
+    block.len() == 68
+        && is_valid_narrow(&block[..24])
+        && block[24..64].chunks_exact(4).all(is_finite)
+        && block[64] <= 1
+        && block[65..] == [0, 0, 0]
+}
+
+/// Registers in their ranges with any floats, and any valid charges.
+fn any_state(random: &mut Random) -> [u8; 68] {
+    let bits = random.bits();
+    let registers = FilterRegisters {
+        cutoff: bits as u16 % 2048,
+        cutoff_dac_displacement_codes: (bits >> 16) as i16 % 58,
+        cutoff_write_base: (bits >> 32) as u16 % 2048,
+        cutoff_low_pending: bits >> 63 == 1,
+        resonance: (bits >> 48) as u8 % 16,
+        routing: (bits >> 52) as u8 % 16,
+        mode: (bits >> 56) as u8 % 16,
+        volume: (bits >> 44) as u8 % 16,
+    };
+    let mut state = block(&registers, [random.float().to_bits(), random.float().to_bits(), random.float().to_bits()]);
+    fill(&mut state, random);
+    state
+}
+
+/// Now and then another bit, or another length of up to past 68.
+fn damage(bytes: &mut Vec<u8>, random: &mut Random) {
+    let bits = random.bits();
+    if bits % 4 == 0 {
+        let place = (bits >> 8) as usize % bytes.len();
+        bytes[place] ^= 1 << ((bits >> 24) % 8);
+    }
+    if bits % 64 == 1 {
+        bytes.resize((bits >> 8) as usize % 80, 0);
+    }
+}
+
+/// Blocks of every length up to past 68 with a bit or a float out of its range, and valid ones: an invalid block has no cutoff and stays as
+/// it is.
 fn blocks() -> Tally {
     let (mut tally, mut random) = (Tally::default(), Random(5));
     for _ in 0..2_000_000 {
-        let bits = random.bits();
-        let registers = FilterRegisters {
-            cutoff: bits as u16 % 2048,
-            cutoff_dac_displacement_codes: (bits >> 16) as i16 % 58,
-            cutoff_write_base: (bits >> 32) as u16 % 2048,
-            cutoff_low_pending: bits >> 63 == 1,
-            resonance: (bits >> 48) as u8 % 16,
-            routing: (bits >> 52) as u8 % 16,
-            mode: (bits >> 56) as u8 % 16,
-            volume: (bits >> 44) as u8 % 16,
-        };
-        let mut ours = block(&registers, [random.float().to_bits(), random.float().to_bits(), random.float().to_bits()]).to_vec();
-        let damage = random.bits();
-        if damage % 4 == 0 {
-            ours[(damage >> 8) as usize % 24] ^= 1 << ((damage >> 16) % 8);
-        }
-        if damage % 64 == 1 {
-            ours.resize((damage >> 8) as usize % 30, 0);
-        }
+        let mut ours = any_state(&mut random).to_vec();
+        damage(&mut ours, &mut random);
         let valid = is_valid(&ours);
         tally.same(effective_cutoff(&ours) != 65535, valid);
         let before = ours.clone();
         write(&mut ours, 9, 0);
-        tally.same(ours, if valid { vec![0; 24] } else { before });
+        tally.same(ours, if valid { vec![0; 68] } else { before });
     }
     tally
 }
+
+// ---- widening
+
+/// A block into a target on both sides, margins and all: a valid one has zeros behind its bytes but for the conductance of its volume, any
+/// other is refused and leaves the target. What is given is the target after it.
+fn widen(tally: &mut Tally, block: &[u8], target: &[u8]) -> Vec<u8> {
+    let mut ours = framed(target);
+    let answer = surface::proved::widen_state(block, room(&mut ours));
+    let mut theirs = framed(target);
+    let widens = is_valid_narrow(block) && target.len() == 68;
+    if widens {
+        let wide = room(&mut theirs);
+        wide.fill(0);
+        wide[..24].copy_from_slice(block);
+        wide[44..48].copy_from_slice(&volume_dac_conductance_code(block[10]).to_le_bytes());
+    }
+    tally.same(answer, number(if widens { 0 } else { 10 }));
+    tally.same(&ours, &theirs);
+    room(&mut ours).to_vec()
+}
+
+/// Every volume and mode: what is widened is valid, and charges nothing at the write of the volume that it has. The starting value gives
+/// that of a reset.
+fn volumes(filter: &mut Filter) -> Tally {
+    let (mut tally, mut random) = (Tally::default(), Random(12));
+    for value in 0..=255 {
+        let mut block = any_block(&mut random);
+        (block[9], block[10]) = (value >> 4, value & 15);
+        let wide = widen(&mut tally, &block[..24], &block);
+        tally.same(is_valid(&wide), true);
+        let mut written = wide.clone();
+        write(&mut written, 3, value);
+        tally.same(written, wide);
+    }
+    filter.reset();
+    let start = widen(&mut tally, &[0; 24], &[0xa5; 68]);
+    tally.same(&start[..], &[0; 68]);
+    tally.same(&start[..], &filter_block(filter));
+    tally
+}
+
+/// Every byte of a block with every value; then blocks with a bit, a float or the length wrong, and valid ones.
+fn widening() -> Tally {
+    let (mut tally, mut random) = (Tally::default(), Random(10));
+    for start in [[0; 68], any_block(&mut random)] {
+        for place in 0..24 {
+            for value in 0..=255 {
+                let mut block = start;
+                block[place] = value;
+                widen(&mut tally, &block[..24], &start);
+            }
+        }
+    }
+    for _ in 0..1_000_000 {
+        let state = any_state(&mut random);
+        let mut block = state[..24].to_vec();
+        damage(&mut block, &mut random);
+        widen(&mut tally, &block, &state);
+    }
+    tally
+}
+
+/// Blocks of every length up to past 68, each into targets of every length up to past twice that.
+fn lengths() -> Tally {
+    let (mut tally, mut random) = (Tally::default(), Random(13));
+    let valid = any_block(&mut random);
+    let long: Vec<u8> = valid.iter().copied().cycle().take(140).collect();
+    for block in 0..=80 {
+        for target in 0..=140 {
+            widen(&mut tally, &long[..block], &long[..target]);
+        }
+    }
+    tally
+}
+
+// ---- scripts
 
 fn check(script: &[u8]) -> proved::Script {
     let refused = proved::Script { refused: true, events: 0, samples: 0 };

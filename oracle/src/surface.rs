@@ -38,6 +38,7 @@ pub mod proved {
     unsafe extern "C" {
         fn sid_filter_open(bundle: *const u8, bundle_len: usize) -> Answer;
         fn sid_filter_build_curves(bundle: *const u8, bundle_len: usize, curves: *mut u8, curves_len: usize) -> Answer;
+        fn sid_filter_widen_state(block: *const u8, block_len: usize, wide: *mut u8, wide_len: usize) -> Answer;
         fn sid_filter_run(
             bundle: *const u8,
             bundle_len: usize,
@@ -45,6 +46,8 @@ pub mod proved {
             curves_len: usize,
             state: *mut u8,
             state_len: usize,
+            decays: *const u8,
+            decays_len: usize,
             script: *const u8,
             script_len: usize,
             output: *mut u8,
@@ -78,11 +81,28 @@ pub mod proved {
         unsafe { sid_filter_build_curves(bundle.as_ptr(), bundle.len(), curves.as_mut_ptr(), curves.len()) }
     }
 
-    pub fn run(bundle: &[u8], curves: &[u8], state: &mut [u8], script: &[u8], output: &mut [u8]) -> Answer {
-        let ((bundle, bundle_len), (curves, curves_len)) = ((bundle.as_ptr(), bundle.len()), (curves.as_ptr(), curves.len()));
-        let (state, state_len) = (state.as_mut_ptr(), state.len());
-        let ((script, script_len), (output, output_len)) = ((script.as_ptr(), script.len()), (output.as_mut_ptr(), output.len()));
-        unsafe { sid_filter_run(bundle, bundle_len, curves, curves_len, state, state_len, script, script_len, output, output_len) }
+    pub fn widen_state(block: &[u8], wide: &mut [u8]) -> Answer {
+        unsafe { sid_filter_widen_state(block.as_ptr(), block.len(), wide.as_mut_ptr(), wide.len()) }
+    }
+
+    /// What is lent to be read are bundle, curves and decays.
+    pub fn run([bundle, curves, decays]: [&[u8]; 3], state: &mut [u8], script: &[u8], output: &mut [u8]) -> Answer {
+        unsafe {
+            sid_filter_run(
+                bundle.as_ptr(),
+                bundle.len(),
+                curves.as_ptr(),
+                curves.len(),
+                state.as_mut_ptr(),
+                state.len(),
+                decays.as_ptr(),
+                decays.len(),
+                script.as_ptr(),
+                script.len(),
+                output.as_mut_ptr(),
+                output.len(),
+            )
+        }
     }
 
     pub fn collect(routing: u8, mode: u8, voices: &[u8], numbers: &[u8], sums: &mut [u8]) -> Answer {
@@ -148,7 +168,8 @@ pub fn built(bundle: &[u8]) -> Vec<u8> {
     curves
 }
 
-fn number(number: u32) -> proved::Answer {
+/// An answer that is a number alone.
+pub fn number(number: u32) -> proved::Answer {
     placed(number, 0, 0)
 }
 

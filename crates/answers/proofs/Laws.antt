@@ -2,7 +2,7 @@
 use mathlib.Core.Path.{_≡_, refl, sym, ap}
 use mathlib.Core.Bool.{Bool, true, false, cond}
 use Rattle.answers.specs.declared.Answer.{Answer}
-use Rattle.answers.specs.declared.Answer.the-variants.{Done, BundleLength, Header, Entry, CurvesLength, InputNotFinite, Domain, Script, OutputLength, Argument, Sources}
+use Rattle.answers.specs.declared.Answer.the-variants.{Done, BundleLength, Header, Entry, CurvesLength, InputNotFinite, Domain, Script, OutputLength, Argument, Sources, Decays}
 use Rattle.answers.specs.Answers.{isDoneOf, firstOf, unlessOf}
 
 -- Only `Done` is done.
@@ -18,6 +18,7 @@ done-is Script h = cc
 done-is OutputLength h = cc
 done-is Argument h = cc
 done-is Sources h = cc
+done-is Decays h = cc
 
 -- The first of two is done where both are.
 pub first-done : (a b : Answer) → firstOf a b ≡ Done → (a ≡ Done) × (b ≡ Done)
@@ -39,3 +40,11 @@ first-of-done a = go (isDoneOf a) refl
     go : (d : Bool) → isDoneOf a ≡ d → cond d Done a ≡ a
     go true h = sym (done-is a h)
     go false h = refl
+
+-- Three answers, whichever two are taken first.
+pub first-assoc : (a b c : Answer) → firstOf (firstOf a b) c ≡ firstOf a (firstOf b c)
+first-assoc a b c = go (isDoneOf a) refl
+  where
+    go : (d : Bool) → isDoneOf a ≡ d → firstOf (cond d b a) c ≡ cond d (firstOf b c) a
+    go true h = refl
+    go false h = rw h refl

@@ -5,7 +5,7 @@ use lib.Dec.{eqb}
 use Rattle.answers.specs.declared.Buffer.{Buffer}
 use Rattle.answers.specs.declared.Buffer.the-variants.{Bundle, Curves}
 use Rattle.answers.specs.declared.Answer.{Answer}
-use Rattle.answers.specs.declared.Answer.the-variants.{Done, BundleLength, Header, Entry, CurvesLength, InputNotFinite, Domain, Script, OutputLength, Argument, Sources}
+use Rattle.answers.specs.declared.Answer.the-variants.{Done, BundleLength, Header, Entry, CurvesLength, InputNotFinite, Domain, Script, OutputLength, Argument, Sources, Decays}
 use Rattle.answers.specs.declared.Reported.{Reported}
 
 -- A number alone.
@@ -29,6 +29,7 @@ reportOf Script = aloneOf 7
 reportOf OutputLength = aloneOf 8
 reportOf Argument = aloneOf 10
 reportOf Sources = aloneOf 11
+reportOf Decays = aloneOf 12
 
 abbrev pub numberOf : Answer → ℕ
 numberOf a = reportOf a .number

@@ -32,6 +32,8 @@ pub enum Answer {
     // The voices or the numbers lent beside them have a wrong length, a number that is not finite, a flag above 1, a last byte that is not zero or a selection
     // above 15. Everything is left as it was.
     Sources,
+    // The lent decays and tracking are not six numbers from 0 to 1. Everything is left as it was.
+    Decays,
 }
 
 // An answer by its number: 0 is done, and a buffer or a place that the table of refusals does not name is 0.
@@ -60,6 +62,7 @@ fn number(a: Answer) -> u32
         Answer::OutputLength => 8,
         Answer::Argument => 10,
         Answer::Sources => 11,
+        Answer::Decays => 12,
     }
 }
 
@@ -87,6 +90,7 @@ fn buffer_of(a: Answer) -> u32
         Answer::OutputLength => 0,
         Answer::Argument => 0,
         Answer::Sources => 0,
+        Answer::Decays => 0,
     }
 }
 
@@ -105,6 +109,7 @@ fn place_of(a: Answer) -> u32
         Answer::OutputLength => 0,
         Answer::Argument => 0,
         Answer::Sources => 0,
+        Answer::Decays => 0,
     }
 }
 

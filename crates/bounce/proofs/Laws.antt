@@ -11,11 +11,11 @@ use Rattle.control.specs.declared.State.{State}
 use Rattle.control.specs.Block.{blockOf, encodeOf}
 use Rattle.control.proofs.Block.{block-long}
 
-pub started : (s : State) (d block : List ℕ) → 24 ≤ length d → block ≡ encodeOf s (take 24 d)
-    → Counts 24 (block ++ drop 24 d) × (block ++ drop 24 d ≡ blockOf s ++ drop 24 d)
+pub started : (s : State) (d block : List ℕ) → 68 ≤ length d → block ≡ encodeOf s (take 68 d)
+    → Counts 68 (block ++ drop 68 d) × (block ++ drop 68 d ≡ blockOf s ++ drop 68 d)
 unfolding encodeOf
 started s d block h e =
-    let is : block ≡ blockOf s = e ∙ rw (eq-eqb (length (take 24 d)) 24 (length-take-le 24 d h)) in
-    let long : length block ≡ 24 = ap length is ∙ block-long s in
-    let t = take-at block (drop 24 d) 24 long in
-    ((omega (arith, length-append block (drop 24 d)), sym (ap length t ∙ long)), rw is)
+    let is : block ≡ blockOf s = e ∙ rw (eq-eqb (length (take 68 d)) 68 (length-take-le 68 d h)) in
+    let long : length block ≡ 68 = ap length is ∙ block-long s in
+    let t = take-at block (drop 68 d) 68 long in
+    ((omega (arith, length-append block (drop 68 d)), sym (ap length t ∙ long)), rw is)

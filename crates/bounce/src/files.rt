@@ -42,12 +42,12 @@ fn is_whole(fd: i32, size: usize, room: usize) -> bool {
 
 // The block of the starting value, at the start of a buffer. Answers its length.
 fn start(block: &mut [u8]) -> usize
-    requires { ⌜ 24 ≤ length (now block) ⌝ }
+    requires { ⌜ 68 ≤ length (now block) ⌝ }
     ensures { λ r. ⌜ Counts r (now (block .exit)) ⌝ }
-    ensures { λ _. ⌜ now (block .exit) ≡ blockOf startingState ++ drop 24 (now (block .entry)) ⌝ }
+    ensures { λ _. ⌜ now (block .exit) ≡ blockOf startingState ++ drop 68 (now (block .entry)) ⌝ }
 {
-    State::new().encode(&mut block[..24]);
-    24
+    State::new().encode(&mut block[..68]);
+    68
 }
 
 // The state's file, or the starting value where there is none.

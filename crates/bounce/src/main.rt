@@ -1,5 +1,5 @@
-// bounce BUNDLE STATE OUTPUT SCRIPT..: runs each script from the state that the last one left, the first from the file STATE, or from the starting value where that
-// is missing. The samples go to OUTPUT, script by script, the end state to STATE, and a line a script to standard output, with a status in the last one.
+// bounce BUNDLE DECAYS STATE OUTPUT SCRIPT..: runs each script from the state that the last one left, the first from the file STATE, or from the starting value where
+// that is missing. The samples go to OUTPUT, script by script, the end state to STATE, and a line a script to standard output, with a status in the last one.
 mod files;
 mod names;
 
@@ -22,10 +22,10 @@ fn main() {
 
 // Each of these functions answers the status, and goes on with the next where it can.
 fn bounce() -> u32 {
-    if os::arg_count() < 5 {
+    if os::arg_count() < 6 {
         io::write_all(
             STDOUT_FILENO,
-            b"usage: bounce BUNDLE STATE OUTPUT SCRIPT..\n",
+            b"usage: bounce BUNDLE DECAYS STATE OUTPUT SCRIPT..\n",
         );
         return UNREAD;
     }
@@ -69,7 +69,7 @@ fn open(name: &[u8], bundle: &[u8]) -> u32 {
     if !answers::is_done(built) {
         return refuse(name, built);
     }
-    resume(bundle, &curves)
+    find_decays(bundle, &curves)
 }
 
 // Prints the line of a file that is refused before the first script, and answers the number.
@@ -80,19 +80,42 @@ fn refuse(name: &[u8], answer: Answer) -> u32 {
     answers::report(answer).number
 }
 
-// Finds the state's name.
-fn resume(bundle: &[u8], curves: &[u8]) -> u32 {
+// Finds the decays' name.
+fn find_decays(bundle: &[u8], curves: &[u8]) -> u32 {
     let mut path = io::buffer();
     let n = os::arg(2, &mut path);
+    if os::errno() != 0 {
+        os::fail(b"DECAYS");
+        return UNREAD;
+    }
+    load_decays(bundle, curves, &path[..n])
+}
+
+// Loads the decays, which are judged after the state.
+fn load_decays(bundle: &[u8], curves: &[u8], path: &[u8]) -> u32 {
+    let mut decays = decays_room();
+    let loaded = files::load(path, &mut decays);
+    if !loaded.whole {
+        os::fail(path);
+        return UNREAD;
+    }
+    let size = loaded.size;
+    find_state(bundle, curves, path, &decays[..size])
+}
+
+// Finds the state's name.
+fn find_state(bundle: &[u8], curves: &[u8], decays_name: &[u8], decays: &[u8]) -> u32 {
+    let mut path = io::buffer();
+    let n = os::arg(3, &mut path);
     if os::errno() != 0 {
         os::fail(b"STATE");
         return UNREAD;
     }
-    load_state(bundle, curves, &path[..n])
+    load_state(bundle, curves, decays_name, decays, &path[..n])
 }
 
-// Loads the state, and judges it before anything is written.
-fn load_state(bundle: &[u8], curves: &[u8], path: &[u8]) -> u32 {
+// Loads the state. One of 24 bytes has no charges yet.
+fn load_state(bundle: &[u8], curves: &[u8], decays_name: &[u8], decays: &[u8], path: &[u8]) -> u32 {
     let mut block = block_room();
     let loaded = files::load_state(path, &mut block);
     if !loaded.whole {
@@ -100,15 +123,57 @@ fn load_state(bundle: &[u8], curves: &[u8], path: &[u8]) -> u32 {
         return UNREAD;
     }
     let size = loaded.size;
-    let DecodedState::Valid(_) = State::decode(&block[..size]) else {
+    if size == State::NARROW_BYTES {
+        return widen(bundle, curves, decays_name, decays, path, &block[..size]);
+    }
+    judge(
+        bundle,
+        curves,
+        decays_name,
+        decays,
+        path,
+        &mut block[..size],
+    )
+}
+
+// Widens a block that has no charges.
+fn widen(
+    bundle: &[u8],
+    curves: &[u8],
+    decays_name: &[u8],
+    decays: &[u8],
+    path: &[u8],
+    narrow: &[u8],
+) -> u32 {
+    let mut block = [0u8; 68];
+    if !State::widen(narrow, &mut block) {
+        return refuse(path, Answer::Argument);
+    }
+    judge(bundle, curves, decays_name, decays, path, &mut block)
+}
+
+// Judges the state and then the decays, before anything is written.
+fn judge(
+    bundle: &[u8],
+    curves: &[u8],
+    decays_name: &[u8],
+    decays: &[u8],
+    path: &[u8],
+    block: &mut [u8],
+) -> u32 {
+    let DecodedState::Valid(_) = State::decode(block) else {
         return refuse(path, Answer::Argument);
     };
-    keep(bundle, curves, path, &mut block[..size])
+    let judged = transients::judge_decays(decays);
+    if !answers::is_done(judged) {
+        return refuse(decays_name, judged);
+    }
+    keep(bundle, curves, decays, path, block)
 }
 
 // Saves the state that the scripts leave, but not where samples may be missing from the output.
-fn keep(bundle: &[u8], curves: &[u8], path: &[u8], block: &mut [u8]) -> u32 {
-    let status = render(bundle, curves, block);
+fn keep(bundle: &[u8], curves: &[u8], decays: &[u8], path: &[u8], block: &mut [u8]) -> u32 {
+    let status = render(bundle, curves, decays, block);
     if status == UNWRITTEN {
         return status;
     }
@@ -119,24 +184,24 @@ fn keep(bundle: &[u8], curves: &[u8], path: &[u8], block: &mut [u8]) -> u32 {
 }
 
 // Finds the output's name.
-fn render(bundle: &[u8], curves: &[u8], block: &mut [u8]) -> u32 {
+fn render(bundle: &[u8], curves: &[u8], decays: &[u8], block: &mut [u8]) -> u32 {
     let mut path = io::buffer();
-    let n = os::arg(3, &mut path);
+    let n = os::arg(4, &mut path);
     if os::errno() != 0 {
         os::fail(b"OUTPUT");
         return UNWRITTEN;
     }
-    fill_output(bundle, curves, block, &path[..n])
+    fill_output(bundle, curves, decays, block, &path[..n])
 }
 
 // Empties the output, or makes it, and plays the scripts into it.
-fn fill_output(bundle: &[u8], curves: &[u8], block: &mut [u8], path: &[u8]) -> u32 {
+fn fill_output(bundle: &[u8], curves: &[u8], decays: &[u8], block: &mut [u8], path: &[u8]) -> u32 {
     let output = os::open_overwrite(path);
     if output < 0 {
         os::fail(path);
         return UNWRITTEN;
     }
-    let status = play(bundle, curves, block, output);
+    let status = play(bundle, curves, decays, block, output);
     if libc::close(output) < 0 {
         os::fail(path);
         return UNWRITTEN;
@@ -145,9 +210,9 @@ fn fill_output(bundle: &[u8], curves: &[u8], block: &mut [u8], path: &[u8]) -> u
 }
 
 // The scripts in order, up to the first that is not done.
-fn play(bundle: &[u8], curves: &[u8], block: &mut [u8], output: i32) -> u32 {
-    for i in 4..os::arg_count() {
-        let status = play_argument(bundle, curves, block, i, output);
+fn play(bundle: &[u8], curves: &[u8], decays: &[u8], block: &mut [u8], output: i32) -> u32 {
+    for i in 5..os::arg_count() {
+        let status = play_argument(bundle, curves, decays, block, i, output);
         if status != 0 {
             return status;
         }
@@ -156,18 +221,32 @@ fn play(bundle: &[u8], curves: &[u8], block: &mut [u8], output: i32) -> u32 {
 }
 
 // Finds a script's name.
-fn play_argument(bundle: &[u8], curves: &[u8], block: &mut [u8], i: usize, output: i32) -> u32 {
+fn play_argument(
+    bundle: &[u8],
+    curves: &[u8],
+    decays: &[u8],
+    block: &mut [u8],
+    i: usize,
+    output: i32,
+) -> u32 {
     let mut path = io::buffer();
     let n = os::arg(i, &mut path);
     if os::errno() != 0 {
         os::fail(b"SCRIPT");
         return UNREAD;
     }
-    play_file(bundle, curves, block, &path[..n], output)
+    play_file(bundle, curves, decays, block, &path[..n], output)
 }
 
 // Loads a script and plays it.
-fn play_file(bundle: &[u8], curves: &[u8], block: &mut [u8], path: &[u8], output: i32) -> u32 {
+fn play_file(
+    bundle: &[u8],
+    curves: &[u8],
+    decays: &[u8],
+    block: &mut [u8],
+    path: &[u8],
+    output: i32,
+) -> u32 {
     let mut script = script_room();
     let loaded = files::load(path, &mut script);
     if !loaded.whole {
@@ -175,13 +254,14 @@ fn play_file(bundle: &[u8], curves: &[u8], block: &mut [u8], path: &[u8], output
         return UNREAD;
     }
     let size = loaded.size;
-    play_script(bundle, curves, block, path, &script[..size], output)
+    play_script(bundle, curves, decays, block, path, &script[..size], output)
 }
 
 // Runs a script, writes its samples and prints its line.
 fn play_script(
     bundle: &[u8],
     curves: &[u8],
+    decays: &[u8],
     block: &mut [u8],
     name: &[u8],
     script: &[u8],
@@ -189,7 +269,16 @@ fn play_script(
 ) -> u32 {
     let mut samples = sample_room();
     let mut line = line_room();
-    let stepped = bounce_step::step(bundle, curves, block, name, script, &mut samples, &mut line);
+    let stepped = bounce_step::step(
+        bundle,
+        curves,
+        block,
+        decays,
+        name,
+        script,
+        &mut samples,
+        &mut line,
+    );
     let size = stepped.samples;
     let end = stepped.line;
     if !io::write_all(output, &samples[..size]) {
@@ -210,8 +299,12 @@ fn curves_room() -> [u8; 254076] {
     [0; 254076]
 }
 
-fn block_room() -> [u8; 25] {
+fn decays_room() -> [u8; 25] {
     [0; 25]
+}
+
+fn block_room() -> [u8; 69] {
+    [0; 69]
 }
 
 // 8 bytes, and 12 for each of 65,536 events.

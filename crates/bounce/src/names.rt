@@ -3,7 +3,7 @@ use libc::STDOUT_FILENO;
 
 // Whether OUTPUT, STATE and STATE.new have names of their own.
 pub(crate) fn are_apart() -> bool {
-    !(is_argument_taken(3) || is_argument_taken(2) || is_beside_taken())
+    !(is_argument_taken(4) || is_argument_taken(3) || is_beside_taken())
 }
 
 // Whether another argument has an argument's name.
@@ -16,7 +16,7 @@ fn is_argument_taken(own: usize) -> bool {
 // Whether an argument has the name STATE.new.
 fn is_beside_taken() -> bool {
     let mut state = io::buffer();
-    let n = os::arg(2, &mut state);
+    let n = os::arg(3, &mut state);
     let mut beside = [0u8; 4608];
     let m = bounce_lines::beside(&mut beside, &state[..n]);
     is_taken(&beside[..m], 0)

@@ -4,7 +4,7 @@ use mathlib.Core.Bool.{cond}
 use mathlib.Core.List.{List, _++_}
 use Rattle.answers.specs.declared.Buffer.the-variants.{Bundle, Curves}
 use Rattle.answers.specs.declared.Answer.{Answer}
-use Rattle.answers.specs.declared.Answer.the-variants.{Done, BundleLength, Header, Entry, CurvesLength, InputNotFinite, Domain, Script, OutputLength, Argument, Sources}
+use Rattle.answers.specs.declared.Answer.the-variants.{Done, BundleLength, Header, Entry, CurvesLength, InputNotFinite, Domain, Script, OutputLength, Argument, Sources, Decays}
 use Rattle.answers.specs.Answers.{numberOf, isDoneOf}
 use Rattle.wire.specs.Text.{ascii}
 use Rattle.text.specs.Text.{decimalOf}
@@ -27,6 +27,7 @@ wordsOf Script = ascii "the script's length is not 8 + 12 x count, or its offset
 wordsOf OutputLength = ascii "the output is shorter than 16 bytes a sample event"
 wordsOf Argument = ascii "the state block is invalid"
 wordsOf Sources = ascii "a voice, or a number lent beside the voices, is invalid"
+wordsOf Decays = ascii "the decays are not six numbers from 0 to 1"
 
 -- The events done and the samples written.
 unfoldable pub countsOf : ℕ → ℕ → List ℕ

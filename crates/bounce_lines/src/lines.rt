@@ -22,7 +22,7 @@ fn push_placed(out: &mut [u8], at: usize, words: &[u8], place: u32) -> usize
     push_number(out, n, place as u64)
 }
 
-// The text with an answer's words after it: a sentence for each of the ten refusals.
+// The text with an answer's words after it: a sentence for each of the eleven refusals.
 fn push_words(out: &mut [u8], at: usize, answer: Answer) -> usize
     requires { ⌜ at ≤ length (now out) ⌝ }
     ensures { λ r. ⌜ Counts r (now (out .exit)) ⌝ }
@@ -60,6 +60,7 @@ fn push_words(out: &mut [u8], at: usize, answer: Answer) -> usize
             at,
             b"a voice, or a number lent beside the voices, is invalid",
         ),
+        Answer::Decays => push(out, at, b"the decays are not six numbers from 0 to 1"),
     }
 }
 

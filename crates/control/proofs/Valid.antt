@@ -4,20 +4,21 @@ use mathlib.Core.Path.{_≡_, refl, sym}
 use mathlib.Core.Bool.{Bool, true, false, cond, _&&_, true≢false}
 use native.Mathlib.Omega.{arith}
 use native.Mathlib.Nat.{div-le-of-le-mul}
-use lib.Dec.{T, leb, ltb}
+use lib.Dec.{leb, ltb}
 use lib.IntN.{ℤ, pos, negsuc, negℤ, natAbs, _+ℤ_}
 use lib.Signed.{leZ, ltZ}
-use lib.Ieee.{Float, nan, inf, fin, binary32, up, down, lt, neg, ofInt, ofBits, toSigned, fits}
-use lib.Ieee.Scale.{finite}
-use lib.Ieee.Bits.{is-true}
+use lib.Ieee.{Float, nan, inf, fin, up, down, lt, neg, ofInt, ofBits, toSigned, fits}
 use borrow.Author.Tests.{le-leb, leb-true, ltb-false}
 use Rattle.floats.proofs.Laws.{both}
-use Rattle.floats.specs.Floats.{clampOf}
+use Rattle.floats.specs.Floats.{clampOf, finiteF32Of}
 use Rattle.integrator.specs.declared.IntegratorState.{IntegratorState}
+use Rattle.transients.specs.declared.TransientState.{TransientState}
+use Rattle.transients.specs.Transients.{finiteTransientsOf}
+use Rattle.transients.proofs.Laws.{starting-finite}
 use Rattle.control.specs.declared.State.{State}
 use Rattle.control.specs.Registers.{displacementOf, displacedOf, effectiveCutoffOf, startingState, withCutoff}
-use Rattle.control.specs.Registers.{withNibbles, writeCutoffLowOf, writeCutoffHighOf, writeSignalRoutingOf, writeModeAndVolumeOf}
-use Rattle.control.specs.Block.{validRegistersOf, finiteF32Of, finiteFloatsOf, validOf}
+use Rattle.control.specs.Registers.{withNibbles, withTransients, writeCutoffLowOf, writeCutoffHighOf, writeSignalRoutingOf, writeModeAndVolumeOf}
+use Rattle.control.specs.Block.{validRegistersOf, finiteFloatsOf, validOf}
 
 -- ---- the displacement
 
@@ -69,6 +70,7 @@ pub record Ranges (s : State) : Type 0 where
   pub mode : s .registers .mode ≤ 15
   pub volume : s .registers .volume ≤ 15
   pub floats : finiteFloatsOf (s .integrator) ≡ true
+  pub transients : finiteTransientsOf (s .transients) ≡ true
 
 pub valid-ranges : (s : State) → validOf s ≡ true → Ranges s
 unfolding validOf validRegistersOf
@@ -77,8 +79,8 @@ valid-ranges s v =
     let d = r .«cutoff_dac_displacement_codes» in
     let codes = leb (r .cutoff) 2047 && leb (r .«cutoff_write_base») 2047 && leZ (negsuc 56) d && leZ d (pos 57) in
     let nibbles = leb (r .resonance) 15 && leb (r .routing) 15 && leb (r .mode) 15 && leb (r .volume) 15 in
-    let w = both (codes && nibbles) (finiteFloatsOf (s .integrator)) v in
-    let h = both codes nibbles (w .0) in
+    let w = four true (codes && nibbles) (finiteFloatsOf (s .integrator)) (finiteTransientsOf (s .transients)) v in
+    let h = both codes nibbles (w .1) in
     let c = four (leb (r .cutoff) 2047) (leb (r .«cutoff_write_base») 2047) (leZ (negsuc 56) d) (leZ d (pos 57)) (h .0) in
     let n = four (leb (r .resonance) 15) (leb (r .routing) 15) (leb (r .mode) 15) (leb (r .volume) 15) (h .1) in
     record {
@@ -89,7 +91,8 @@ valid-ranges s v =
       routing = leb-true (r .routing) 15 (n .1);
       mode = leb-true (r .mode) 15 (n .2);
       volume = leb-true (r .volume) 15 (n .3);
-      floats = w .1;
+      floats = w .2;
+      transients = w .3;
     }
 
 pub ranges-valid : (s : State) → Ranges s → validOf s ≡ true
@@ -104,14 +107,23 @@ ranges-valid s k =
       le-leb _ _ (k .routing),
       le-leb _ _ (k .mode),
       le-leb _ _ (k .volume),
-    ) (k .floats)
+      k .floats,
+    ) (k .transients)
 
 -- The starting value, which the reset gives.
 pub starting-valid : validOf startingState ≡ true
 unfolding validOf validRegistersOf finiteFloatsOf finiteF32Of ofBits fits
-starting-valid = refl
+starting-valid = starting-finite
 
--- A state stays valid with other cutoff fields, nibbles or floats that are in range.
+-- A state stays valid with other transients, cutoff fields, nibbles or floats that are in range.
+registers-valid : (s : State) → validOf s ≡ true → validRegistersOf (s .registers) ≡ true
+unfolding validOf
+registers-valid s h = four true (validRegistersOf (s .registers)) (finiteFloatsOf (s .integrator)) (finiteTransientsOf (s .transients)) h .1
+
+transients-valid : (s : State) → validOf s ≡ true → (t : TransientState) → finiteTransientsOf t ≡ true → validOf (withTransients s t) ≡ true
+unfolding validOf
+transients-valid s h t f = rw (registers-valid s h, valid-ranges s h .floats) f
+
 module _ (s : State) (h : validOf s ≡ true) where
   k : Ranges s
   k = valid-ranges s h
@@ -128,6 +140,7 @@ module _ (s : State) (h : validOf s ≡ true) where
         mode = k .mode;
         volume = k .volume;
         floats = k .floats;
+        transients = k .transients;
       })
 
   nibbles-valid : (resonance routing mode volume : ℕ) → resonance ≤ 15 → routing ≤ 15 → mode ≤ 15 → volume ≤ 15 → validOf (withNibbles s resonance routing mode volume) ≡ true
@@ -142,11 +155,12 @@ module _ (s : State) (h : validOf s ≡ true) where
         mode = m;
         volume = v;
         floats = k .floats;
+        transients = k .transients;
       })
 
-  pub floats-valid : (i : IntegratorState) → finiteFloatsOf i ≡ true → validOf (record { registers = s .registers; integrator = i }) ≡ true
+  pub floats-valid : (i : IntegratorState) → finiteFloatsOf i ≡ true → validOf (record { registers = s .registers; integrator = i; transients = s .transients }) ≡ true
   unfolding validOf
-  floats-valid i f = rw (both (validRegistersOf (s .registers)) (finiteFloatsOf (s .integrator)) h .0, f)
+  floats-valid i f = rw (registers-valid s h, f) (k .transients)
 
   -- ---- the writes, for every value
   module _ (v : ℕ) where
@@ -159,13 +173,11 @@ module _ (s : State) (h : validOf s ≡ true) where
     pub routing-valid : validOf (writeSignalRoutingOf s v) ≡ true
     routing-valid = nibbles-valid _ _ _ _ (omega arith) (omega arith) (k .mode) (k .volume)
 
-    pub mode-valid : validOf (writeModeAndVolumeOf s v) ≡ true
-    mode-valid = nibbles-valid _ _ _ _ (k .resonance) (k .routing) (omega arith) (omega arith)
-
--- A finite f32, from what an operation's result is known to be.
-pub finite-f32 : (x : Float) → T (fits binary32 x) → finite x ≡ true → finiteF32Of x ≡ true
-unfolding finiteF32Of
-finite-f32 x f h = rw (is-true (fits binary32 x) f, h)
+    -- a mode's where it leaves finite charges
+    pub mode-valid : finiteTransientsOf (writeModeAndVolumeOf s v .transients) ≡ true → validOf (writeModeAndVolumeOf s v) ≡ true
+    mode-valid f =
+        let nibbles = withNibbles s (s .registers .resonance) (s .registers .routing) _ _ in
+        transients-valid nibbles (nibbles-valid _ _ _ _ (k .resonance) (k .routing) (omega arith) (omega arith)) _ f
 
 -- The effective cutoff is a code, of every state.
 pub effective-within : (s : State) → effectiveCutoffOf s ≤ 2047

@@ -7,6 +7,8 @@ use lib.Signed.{ltZ}
 use lib.Ieee.{binary32, ofBits, ofInt, toSigned, mul, neg}
 use Rattle.floats.specs.Floats.{roundOf, clampOf}
 use Rattle.constants.specs.Values.{FILTER-CUTOFF-STEP-CHARGE-GAIN, FILTER-CUTOFF-STEP-CHARGE-LIMIT-CODES}
+use Rattle.transients.specs.declared.TransientState.{TransientState}
+use Rattle.transients.specs.Transients.{startingTransients, chargeOf}
 use Rattle.control.specs.declared.FilterRegisters.{FilterRegisters}
 use Rattle.control.specs.declared.State.{State}
 
@@ -104,7 +106,12 @@ startingState =
     record {
       registers = startingRegisters;
       integrator = record { «band_state» = ofBits binary32 0; «low_state» = ofBits binary32 0; «filter_source_energy» = ofBits binary32 0 };
+      transients = startingTransients;
     }
+
+-- A state with these registers: what a write makes of them, and what is worked out from them, depends on nothing else.
+abbrev pub ofRegisters : FilterRegisters → State
+ofRegisters r = record { registers = r; integrator = startingState .integrator; transients = startingState .transients }
 
 -- ---- the writes
 
@@ -125,6 +132,7 @@ withCutoff s cutoff displacement base pending =
             volume = r .volume;
           };
       integrator = s .integrator;
+      transients = s .transients;
     }
 
 -- The state with other nibbles.
@@ -144,7 +152,12 @@ withNibbles s resonance routing mode volume =
             volume = volume;
           };
       integrator = s .integrator;
+      transients = s .transients;
     }
+
+-- The state with other transients.
+abbrev pub withTransients : State → TransientState → State
+withTransients s t = record { registers = s .registers; integrator = s .integrator; transients = t }
 
 -- The base takes the cutoff at every write, pending or not. The displacement stays.
 abbrev pub writeCutoffLowOf : State → ℕ → State
@@ -172,5 +185,7 @@ writeCutoffHighOf s value =
 abbrev pub writeSignalRoutingOf : State → ℕ → State
 writeSignalRoutingOf s value = withNibbles s (resonanceBits value) (routingBits value) (s .registers .mode) (s .registers .volume)
 
+-- Two nibbles too, and the step of the volume is charged, also where the volume stays.
 abbrev pub writeModeAndVolumeOf : State → ℕ → State
-writeModeAndVolumeOf s value = withNibbles s (s .registers .resonance) (s .registers .routing) (modeBits value) (volumeBits value)
+writeModeAndVolumeOf s value =
+    withTransients (withNibbles s (s .registers .resonance) (s .registers .routing) (modeBits value) (volumeBits value)) (chargeOf (s .transients) (volumeBits value))

@@ -20,8 +20,11 @@ use Rattle.integrator.specs.declared.Substeps.the-variants.{Settled, NotFinite}
 use Rattle.mixing.specs.declared.MixingTopology.{MixingTopology}
 use Rattle.mixing.specs.Topology.{topologyOf, filterCountOf, outputCountOf, mixerCountOf, reciprocalOf}
 use Rattle.mixing.proofs.Facts.{filter-most, output-most, mixer-most}
+use Rattle.transients.specs.Transients.{finiteTransientsOf, finiteChargesOf}
+use Rattle.transients.specs.Block.{judgeDecaysOf}
+use Rattle.transients.proofs.Laws.{starting-finite, charge-finite}
 use Rattle.control.specs.declared.State.{State}
-use Rattle.control.specs.Registers.{startingState, effectiveCutoffOf, writeCutoffLowOf, writeCutoffHighOf, writeSignalRoutingOf, writeModeAndVolumeOf}
+use Rattle.control.specs.Registers.{volumeBits, startingState, effectiveCutoffOf, writeCutoffLowOf, writeCutoffHighOf, writeSignalRoutingOf, writeModeAndVolumeOf}
 use Rattle.control.specs.Block.{validOf, finiteFloatsOf}
 use Rattle.control.proofs.Valid.{valid-ranges, effective-within, floats-valid, low-valid, high-valid, routing-valid, mode-valid, starting-valid}
 use Rattle.controls.specs.declared.ControlCache.{ControlCache}
@@ -38,10 +41,10 @@ use Rattle.script.specs.declared.Event.{Event}
 use Rattle.script.specs.declared.Event.the-variants.{CutoffLow, CutoffHigh, Routing, Mode, Sample, Reset}
 use Rattle.filter.specs.declared.Core.{Core}
 use Rattle.filter.specs.declared.Fed.{Fed}
-use Rattle.filter.specs.Lent.{Lent, judgeLentOf}
+use Rattle.filter.specs.Lent.{Lent, lentOf, judgeTablesOf, judgeLentOf}
 use Rattle.filter.specs.Core.{freshTopologyOf, coreOf, judgeCoreOf, countableOf, soundOf, settledOf, quietOf, withIntegrator, afterOf, coreStartOf, refreshedOf, reselectedOf}
-use Rattle.filter.specs.Core.{changeOf, takeOf, feedEventOf, coreWriteOf, feedOf}
-use Rattle.filter.specs.Plain.{Plain, refusedAt, plainStart, plainChange, plainTaken, plainSample, plainStep, plainTrace}
+use Rattle.filter.specs.Core.{changeOf, takeOf, feedEventOf, coreWriteOf, coreSampleOf, feedOf}
+use Rattle.filter.specs.Plain.{Plain, refusedAt, plainStart, judgeChangeOf, plainChange, plainTaken, plainSample, plainStep, plainTrace}
 use Rattle.filter.specs.Lists.{coreTrace, isSample, shown, shownAll, Fresh, AllFresh}
 
 -- What every core of a list has: a valid state, all else worked out afresh from it, and controls that are not refused.
@@ -74,18 +77,38 @@ changed r = record { answer = r .answer; sample = []; state = r .core .state }
 abbrev Changes : Lent → Core → State → Fed → Type 0
 Changes l k t r = (changed r ≡ plainChange l (k .state) t) × Invariant l (r .core)
 
--- one law for all five: `new` is worked out afresh from the next state
-module _ (l : Lent) (k : Core) (t : State) (new : Core) (kept : Invariant l k) (new-is : new ≡ coreOf l t) (valid : validOf t ≡ true) where
-  settles : Changes l k t (quietOf (settledOf (judgeControlsOf (l .bundle) t) k new))
-  settles = go (isDoneOf (judgeControlsOf (l .bundle) t)) refl
+-- what is not refused of a change
+pub change-parts : (bundle : List ℕ) (t : State) → judgeChangeOf bundle t ≡ Done → (judgeControlsOf bundle t ≡ Done) × (finiteTransientsOf (t .transients) ≡ true)
+unfolding judgeChangeOf
+change-parts bundle t h =
+    let p = first-done (judgeControlsOf bundle t) (unlessOf (finiteTransientsOf (t .transients)) Domain) h in
+    (p .0, unless-done (finiteTransientsOf (t .transients)) Domain refl (p .1))
+
+-- where the transients are finite only the controls are judged
+pub change-quiet : (bundle : List ℕ) (t : State) → finiteTransientsOf (t .transients) ≡ true → judgeControlsOf bundle t ≡ judgeChangeOf bundle t
+unfolding judgeChangeOf
+change-quiet bundle t h = rw h (sym (first-of-done (judgeControlsOf bundle t)))
+
+-- one law for all five: `new` is worked out afresh from the next state, which is valid where its transients are finite
+module _ (l : Lent) (k : Core) (t : State) (new : Core) (kept : Invariant l k) (new-is : new ≡ coreOf l t) (valid : finiteTransientsOf (t .transients) ≡ true → validOf t ≡ true) where
+  settles : {answer : Answer} → answer ≡ judgeChangeOf (l .bundle) t → Changes l k t (quietOf (settledOf answer k new))
+  settles is = rw is (go (isDoneOf (judgeChangeOf (l .bundle) t)) refl)
     where
-      go : (d : Bool) → isDoneOf (judgeControlsOf (l .bundle) t) ≡ d → Changes l k t (quietOf (settledOf (judgeControlsOf (l .bundle) t) k new))
+      go : (d : Bool) → isDoneOf (judgeChangeOf (l .bundle) t) ≡ d → Changes l k t (quietOf (settledOf (judgeChangeOf (l .bundle) t) k new))
       go true h =
-          let j = done-is (judgeControlsOf (l .bundle) t) h in
-          rw (j, new-is) (refl, record { valid = valid; fresh = refl; judged = j })
+          let j = done-is (judgeChangeOf (l .bundle) t) h in
+          let p = change-parts (l .bundle) t j in
+          rw (j, new-is) (refl, record { valid = valid (p .1); fresh = refl; judged = p .0 })
       go false h = rw h (refl, kept)
 
+  -- with transients that are finite already
+  settles-quiet : finiteTransientsOf (t .transients) ≡ true → Changes l k t (quietOf (settledOf (judgeControlsOf (l .bundle) t) k new))
+  settles-quiet h = settles (change-quiet (l .bundle) t h)
+
 module _ (l : Lent) (k : Core) (kept : Invariant l k) where
+  finite-kept : finiteTransientsOf (k .state .transients) ≡ true
+  finite-kept = valid-ranges (k .state) (kept .valid) .transients
+
   -- a cutoff's write leaves the topology
   cutoff-new : (t : State) → t .registers .routing ≡ k .state .registers .routing → t .registers .mode ≡ k .state .registers .mode
       → _≡_ {A = Core} (record { state = t; topology = k .topology; controls = controlsOf (l .bundle) t }) (coreOf l t)
@@ -95,30 +118,33 @@ module _ (l : Lent) (k : Core) (kept : Invariant l k) where
 
   low-changes : (v : ℕ) → Changes l k (writeCutoffLowOf (k .state) v) (quietOf (changeOf (l .bundle) k (CutoffLow v)))
   unfolding refreshedOf
-  low-changes v = settles l k (writeCutoffLowOf (k .state) v) _ kept (cutoff-new _ refl refl) (low-valid (k .state) (kept .valid) v)
+  low-changes v = settles-quiet l k (writeCutoffLowOf (k .state) v) _ kept (cutoff-new _ refl refl) (λ f. low-valid (k .state) (kept .valid) v) finite-kept
 
   high-changes : (v : ℕ) → Changes l k (writeCutoffHighOf (k .state) v) (quietOf (changeOf (l .bundle) k (CutoffHigh v)))
   unfolding refreshedOf
-  high-changes v = settles l k (writeCutoffHighOf (k .state) v) _ kept (cutoff-new _ refl refl) (high-valid (k .state) (kept .valid) v)
+  high-changes v = settles-quiet l k (writeCutoffHighOf (k .state) v) _ kept (cutoff-new _ refl refl) (λ f. high-valid (k .state) (kept .valid) v) finite-kept
 
   routing-changes : (v : ℕ) → Changes l k (writeSignalRoutingOf (k .state) v) (quietOf (changeOf (l .bundle) k (Routing v)))
   unfolding refreshedOf
-  routing-changes v = settles l k (writeSignalRoutingOf (k .state) v) _ kept refl (routing-valid (k .state) (kept .valid) v)
+  routing-changes v = settles-quiet l k (writeSignalRoutingOf (k .state) v) _ kept refl (λ f. routing-valid (k .state) (kept .valid) v) finite-kept
 
   reset-changes : Changes l k startingState (quietOf (changeOf (l .bundle) k Reset))
   unfolding refreshedOf
-  reset-changes = settles l k startingState _ kept refl starting-valid
+  reset-changes = settles-quiet l k startingState _ kept refl (λ f. starting-valid) starting-finite
 
   -- a mode's write leaves the filter's controls, which are neither refused nor moved
   module _ (v : ℕ) where
     abbrev selected : State
     selected = writeModeAndVolumeOf (k .state) v
 
-    mode-judged : judgeGainOf (l .bundle) (selected .registers) (effectiveCutoffOf (k .state)) ≡ judgeControlsOf (l .bundle) selected
+    mode-judged : firstOf (judgeGainOf (l .bundle) (selected .registers) (effectiveCutoffOf (k .state))) (unlessOf (finiteChargesOf (selected .transients)) Domain) ≡ judgeChangeOf (l .bundle) selected
+    unfolding judgeChangeOf
     mode-judged =
         let small = valid-ranges (k .state) (kept .valid) .resonance in
         let is = judged-by-parts (l .bundle) selected (omega arith) in
-        sym (is ∙ rw (filter-usable (l .bundle) (k .state) (kept .judged)) refl)
+        let controls : judgeGainOf (l .bundle) (selected .registers) (effectiveCutoffOf (k .state)) ≡ judgeControlsOf (l .bundle) selected =
+        sym (is ∙ rw (filter-usable (l .bundle) (k .state) (kept .judged)) refl) in
+        rw (controls, charge-finite (k .state .transients) (volumeBits v) finite-kept)
 
     mode-new :
         _≡_ {A = ControlCache}
@@ -133,7 +159,7 @@ module _ (l : Lent) (k : Core) (kept : Invariant l k) where
 
     mode-changes : Changes l k selected (quietOf (changeOf (l .bundle) k (Mode v)))
     unfolding reselectedOf
-    mode-changes = rw (mode-judged, mode-new) (settles l k selected (coreOf l selected) kept refl (mode-valid (k .state) (kept .valid) v))
+    mode-changes = rw mode-new (settles l k selected (coreOf l selected) kept refl (mode-valid (k .state) (kept .valid) v) mode-judged)
 
 -- ---- what a refused sample has, and what a topology
 
@@ -254,8 +280,8 @@ module _ (l : Lent) (s : State) (valid : validOf s ≡ true) (judged : judgeCont
 abbrev pub Steps : Lent → Core → Event → Fed → Type 0
 Steps l k e r = (shown e r ≡ plainStep l (k .state) e) × Invariant l (r .core)
 
-module _ (l : Lent) (ready : judgeLentOf l ≡ Done) where
-  event-steps : (k : Core) (e : Event) → Invariant l k → Steps l k e (feedEventOf l k e)
+module _ (l : Lent) where
+  pub event-steps : (k : Core) (e : Event) → Invariant l k → Steps l k e (feedEventOf l k e)
   event-steps k (CutoffLow v) kept = low-changes l k kept v
   event-steps k (CutoffHigh v) kept = high-changes l k kept v
   event-steps k (Routing v) kept = routing-changes l k kept v
@@ -264,11 +290,12 @@ module _ (l : Lent) (ready : judgeLentOf l ≡ Done) where
       subst (λ (c : Core). Steps l c (Sample sum energy) (feedEventOf l c (Sample sum energy))) (sym (kept .fresh)) (sample-steps l (k .state) (kept .valid) (kept .judged) sum energy)
   event-steps k Reset kept = reset-changes l k kept
 
+module _ (l : Lent) (ready : judgeLentOf l ≡ Done) (decayed : judgeDecaysOf (l .decays) ≡ Done) where
   pub steps : (k : Core) (e : Event) → Invariant l k → Steps l k e (feedOf l k e)
   unfolding feedOf
   steps k e kept =
       let whole : judgeCoreOf k ≡ Done = rw (kept .fresh) (core-judged l (k .state) (kept .valid) (kept .judged)) in
-      rw (ready, whole) (event-steps k e kept)
+      rw (ready, whole, decayed) (event-steps l k e kept)
 
   -- ---- any list of events
 
@@ -291,23 +318,31 @@ module _ (l : Lent) (ready : judgeLentOf l ≡ Done) where
 -- ---- the start
 
 module _ (l : Lent) (s : State) (started : plainStart l s ≡ Done) where
-  pub start-parts : (judgeLentOf l ≡ Done) × (validOf s ≡ true) × (judgeControlsOf (l .bundle) s ≡ Done)
+  pub record Starts : Type 0 where
+    pub ready : judgeLentOf l ≡ Done
+    pub valid : validOf s ≡ true
+    pub decayed : judgeDecaysOf (l .decays) ≡ Done
+    pub judged : judgeControlsOf (l .bundle) s ≡ Done
+
+  pub start-parts : Starts
   unfolding plainStart
   start-parts =
-      let p = first-done (judgeLentOf l) (firstOf (unlessOf (validOf s) Argument) (judgeControlsOf (l .bundle) s)) started in
-      let q = first-done (unlessOf (validOf s) Argument) (judgeControlsOf (l .bundle) s) (p .1) in
-      (p .0, unless-done (validOf s) Argument refl (q .0), q .1)
+      let p = first-done (judgeLentOf l) _ started in
+      let q = first-done (unlessOf (validOf s) Argument) _ (p .1) in
+      let r = first-done (judgeDecaysOf (l .decays)) (judgeControlsOf (l .bundle) s) (q .1) in
+      record { ready = p .0; valid = unless-done (validOf s) Argument refl (q .0); decayed = r .0; judged = r .1 }
 
   pub start-core : coreStartOf l s .core ≡ coreOf l s
-  start-core = rw (start-parts .2) refl
+  start-core = rw (start-parts .judged) refl
 
-  pub start-agrees : (es : List Event) → Agrees l (start-parts .0) (coreStartOf l s .core) es
-  start-agrees es = rw start-core (agrees l (start-parts .0) (coreOf l s) es (fresh-invariant l s (start-parts .1) (start-parts .2)))
+  pub start-agrees : (es : List Event) → Agrees l (start-parts .ready) (start-parts .decayed) (coreStartOf l s .core) es
+  start-agrees es =
+      rw start-core (agrees l (start-parts .ready) (start-parts .decayed) (coreOf l s) es (fresh-invariant l s (start-parts .valid) (start-parts .judged)))
 
 -- ---- the methods
 
--- A write or the reset called by its own method, and not through `feed`, gives the same where what is lent is right; `Core::sample` is `feed` by its contract. So the theorem speaks of every method.
-module _ (l : Lent) (k : Core) (ready : judgeLentOf l ≡ Done) where
+-- A method called by its own name, and not through `feed`, gives the same where what is lent is right. So the theorem speaks of every method.
+module _ (l : Lent) (k : Core) (ready : judgeLentOf l ≡ Done) (decayed : judgeDecaysOf (l .decays) ≡ Done) where
   change-is-event : (e : Event) → isSample e ≡ false → quietOf (changeOf (l .bundle) k e) ≡ feedEventOf l k e
   change-is-event (CutoffLow v) h = refl
   change-is-event (CutoffHigh v) h = refl
@@ -316,16 +351,25 @@ module _ (l : Lent) (k : Core) (ready : judgeLentOf l ≡ Done) where
   change-is-event (Sample sum energy) h = absurd (true≢false h)
   change-is-event Reset h = refl
 
+  feed-is : (e : Event) → feedOf l k e ≡ cond (isDoneOf (judgeCoreOf k)) (feedEventOf l k e) (quietOf (record { answer = judgeCoreOf k; core = k }))
+  unfolding feedOf
+  feed-is e = rw (ready, decayed, first-of-done (judgeCoreOf k)) refl
+
   pub method-is-feed : (e : Event) → isSample e ≡ false → quietOf (coreWriteOf (l .bundle) k e) ≡ feedOf l k e
-  unfolding coreWriteOf feedOf judgeLentOf
+  unfolding coreWriteOf judgeTablesOf
   method-is-feed e other =
       let opened = first-done (checkOf (l .bundle)) (judgeLengthOf (l .curves)) ready .0 in
-      rw (ready, opened) (go (isDoneOf (judgeCoreOf k)))
+      rw (feed-is e, opened) (go (isDoneOf (judgeCoreOf k)))
     where
       go : (d : Bool) → quietOf (cond d (changeOf (l .bundle) k e) (record { answer = judgeCoreOf k; core = k }))
           ≡ cond d (feedEventOf l k e) (quietOf (record { answer = judgeCoreOf k; core = k }))
       go true = change-is-event e other
       go false = refl
+
+  -- the sample, lent bundle and curves alone
+  pub sample-is-feed : (sum energy : Float) → coreSampleOf (lentOf (l .bundle) (l .curves)) k sum energy ≡ feedOf l k (Sample sum energy)
+  unfolding coreSampleOf takeOf
+  sample-is-feed sum energy = rw (feed-is (Sample sum energy), ready) refl
 
 -- DEMAND 3, the first half. For all that is lent, every state and every list of events: the start is answered as the plain machine answers it; and where it is not refused, every
 -- sample, state and refusal of the list is the plain machine's, and after each event all that is kept equals what is worked out afresh from the state.

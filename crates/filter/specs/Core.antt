@@ -7,13 +7,15 @@ use lib.Dec.{leb}
 use lib.Ieee.{Float}
 use lib.Ieee.Scale.{finite}
 use Rattle.answers.specs.declared.Answer.{Answer}
-use Rattle.answers.specs.declared.Answer.the-variants.{Done, Argument}
+use Rattle.answers.specs.declared.Answer.the-variants.{Done, Domain, Argument}
 use Rattle.answers.specs.Answers.{firstOf, unlessOf, isDoneOf}
 use Rattle.floats.specs.Arithmetic.{f32}
 use Rattle.integrator.specs.declared.IntegratorState.{IntegratorState}
 use Rattle.mixing.specs.declared.MixingTopology.{MixingTopology}
 use Rattle.mixing.specs.Topology.{topologyOf}
 use Rattle.bundle.specs.Opening.{checkOf}
+use Rattle.transients.specs.Transients.{finiteChargesOf}
+use Rattle.transients.specs.Block.{judgeDecaysOf}
 use Rattle.control.specs.declared.State.{State}
 use Rattle.control.specs.Registers.{cutoffMax, nibbleMax, startingState, effectiveCutoffOf, writeCutoffLowOf, writeCutoffHighOf, writeSignalRoutingOf, writeModeAndVolumeOf}
 use Rattle.control.specs.Block.{validOf}
@@ -75,7 +77,7 @@ abbrev pub quietOf : Written → Fed
 quietOf w = record { answer = w .answer; outputs = noOutputs; core = w .core }
 
 abbrev pub withIntegrator : State → IntegratorState → State
-withIntegrator s i = record { registers = s .registers; integrator = i }
+withIntegrator s i = record { registers = s .registers; integrator = i; transients = s .transients }
 
 abbrev pub afterOf : Core → Sampled → Fed
 afterOf k (Taken outputs i) = record { answer = Done; outputs = outputs; core = record { state = withIntegrator (k .state) i; topology = k .topology; controls = k .controls } }
@@ -92,13 +94,13 @@ coreStartOf l s = record { answer = plainStart l s; core = record { state = s; t
 unfoldable pub refreshedOf : List ℕ → Core → State → MixingTopology → Written
 refreshedOf bundle k s t = settledOf (judgeControlsOf bundle s) k (record { state = s; topology = t; controls = controlsOf bundle s })
 
--- the last two of them alone
+-- the last two of them alone, then the charges: 3, then 6, be it a control's or a charge's
 unfoldable pub reselectedOf : List ℕ → Core → State → MixingTopology → Written
 reselectedOf bundle k s t =
     let effective = effectiveCutoffOf s in
     let gain = refreshModeOutputGainOf bundle (s .registers) effective in
     let output = refreshRegisterOutputStateOf (s .registers) in
-    settledOf (judgeGainOf bundle (s .registers) effective) k
+    settledOf (firstOf (judgeGainOf bundle (s .registers) effective) (unlessOf (finiteChargesOf (s .transients)) Domain)) k
     (record { state = s; topology = t; controls = record { filter = k .controls .filter; «mode_output_gain» = gain; output = output } })
 
 -- A write of the cutoff does not touch the topology, one of the mode not the filter's controls. A sample is no change.
@@ -125,14 +127,21 @@ feedEventOf l k (Mode value) = quietOf (changeOf (l .bundle) k (Mode value))
 feedEventOf l k (Sample sum energy) = takeOf l k sum energy
 feedEventOf l k Reset = quietOf (changeOf (l .bundle) k Reset)
 
--- ---- the methods: 1, 2 and 4 of what is lent, 10 of the core, then the event
+-- ---- the methods: 1, 2 and 4 of what is lent, 10 of the core, then the event; `feed` is lent the decays too, and judges them right after 10 (12)
 
 -- a write or the reset is lent the bundle alone
 unfoldable pub coreWriteOf : List ℕ → Core → Event → Written
 coreWriteOf bundle k e = guardedOf (firstOf (checkOf bundle) (judgeCoreOf k)) k (changeOf bundle k e)
 
+-- a sample bundle and curves
+abbrev pub judgeTakeOf : Lent → Core → Answer
+judgeTakeOf l k = firstOf (judgeLentOf l) (judgeCoreOf k)
+
+unfoldable pub coreSampleOf : Lent → Core → Float → Float → Fed
+coreSampleOf l k sum energy = cond (isDoneOf (judgeTakeOf l k)) (takeOf l k sum energy) (quietOf (record { answer = judgeTakeOf l k; core = k }))
+
 abbrev pub judgeFeedOf : Lent → Core → Answer
-judgeFeedOf l k = firstOf (judgeLentOf l) (judgeCoreOf k)
+judgeFeedOf l k = firstOf (judgeTakeOf l k) (judgeDecaysOf (l .decays))
 
 unfoldable pub feedOf : Lent → Core → Event → Fed
 feedOf l k e = cond (isDoneOf (judgeFeedOf l k)) (feedEventOf l k e) (quietOf (record { answer = judgeFeedOf l k; core = k }))

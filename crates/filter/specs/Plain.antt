@@ -1,12 +1,15 @@
 -- The plain machine: it holds a valid state and nothing more, and is fed events and what is lent. At the start, and in each event after its fields change, topology and
 -- controls are worked out afresh.
+use Prim.Native.Nat.{ℕ}
 use mathlib.Core.Bool.{cond}
 use mathlib.Core.List.{List, [], _∷_}
 use lib.Ieee.{Float}
 use Rattle.answers.specs.declared.Answer.{Answer}
-use Rattle.answers.specs.declared.Answer.the-variants.{Done, Argument}
+use Rattle.answers.specs.declared.Answer.the-variants.{Done, Domain, Argument}
 use Rattle.answers.specs.Answers.{firstOf, unlessOf, isDoneOf}
 use Rattle.mixing.specs.Topology.{topologyOf}
+use Rattle.transients.specs.Transients.{finiteTransientsOf}
+use Rattle.transients.specs.Block.{judgeDecaysOf}
 use Rattle.control.specs.declared.State.{State}
 use Rattle.control.specs.Registers.{startingState, writeCutoffLowOf, writeCutoffHighOf, writeSignalRoutingOf, writeModeAndVolumeOf}
 use Rattle.control.specs.Block.{validOf}
@@ -30,19 +33,23 @@ pub record Plain : Type 0 where
 abbrev pub refusedAt : State → Answer → Plain
 refusedAt s answer = record { answer = answer; sample = []; state = s }
 
--- The start: 1, 2, 4, 10, then 3 and 6 of the controls.
+-- The start: 1, 2, 4, 10, 12, then 3 and 6 of the controls.
 unfoldable pub plainStart : Lent → State → Answer
-plainStart l s = firstOf (judgeLentOf l) (firstOf (unlessOf (validOf s) Argument) (judgeControlsOf (l .bundle) s))
+plainStart l s = firstOf (judgeLentOf l) (firstOf (unlessOf (validOf s) Argument) (firstOf (judgeDecaysOf (l .decays)) (judgeControlsOf (l .bundle) s)))
 
--- A write or a reset: from the state s to the state t, if the controls of t are not refused (3, 6).
+-- What a write or a reset leaves: 3 and 6 of the controls, then 6 where one of the transients' floats is not finite.
+unfoldable pub judgeChangeOf : List ℕ → State → Answer
+judgeChangeOf bundle t = firstOf (judgeControlsOf bundle t) (unlessOf (finiteTransientsOf (t .transients)) Domain)
+
+-- From the state s to the state t, if t is not refused.
 abbrev pub plainChange : Lent → State → State → Plain
 plainChange l s t =
-    let judged = judgeControlsOf (l .bundle) t in
+    let judged = judgeChangeOf (l .bundle) t in
     cond (isDoneOf judged) (record { answer = Done; sample = []; state = t }) (refusedAt s judged)
 
 -- A sample that was taken gives the outputs and new floats; one that left the domain, 6.
 abbrev pub plainTaken : State → Sampled → Plain
-plainTaken s (Taken outputs i) = record { answer = Done; sample = outputs ∷ []; state = record { registers = s .registers; integrator = i } }
+plainTaken s (Taken outputs i) = record { answer = Done; sample = outputs ∷ []; state = record { registers = s .registers; integrator = i; transients = s .transients } }
 plainTaken s (Refused answer) = refusedAt s answer
 
 -- A sample: 5, then every 3, of the controls and of the sample, then 6 of the controls; and last its own 6.

@@ -1,7 +1,7 @@
 // The core: the state with what is kept of it between events, its register writes, its samples and its reset.
 ghost use mathlib.Core.Path.{_≡_};
-ghost use Rattle.script.specs.declared.Event.the-variants.{CutoffLow, CutoffHigh, Routing, Mode, Sample, Reset};
-ghost use Rattle.filter.specs.Lent.{lentOf, judgeLentOf};
+ghost use Rattle.script.specs.declared.Event.the-variants.{CutoffLow, CutoffHigh, Routing, Mode, Reset};
+ghost use Rattle.filter.specs.Lent.{lentOf, lentAll, judgeLentOf};
 ghost use Rattle.filter.specs.Core as F;
 use answers::Answer;
 use control::State;
@@ -134,15 +134,16 @@ fn after(before: Core, sampled: Sampled) -> Fed
 }
 
 impl Core {
-    // Works the core of a state out: the first core of a list of events. Refuses 1, 2, 4, 10, 3, 6.
-    pub fn start(bundle: &[u8], curves: &[u8], state: State) -> Written
-        ensures { λ r. ⌜ r ≡ F.coreStartOf (lentOf (now (bundle .entry)) (now (curves .entry))) state ⌝ }
+    // Works the core of a state out: the first core of a list of events. Refuses 1, 2, 4, 10, 12, 3, 6.
+    pub fn start(bundle: &[u8], curves: &[u8], decays: &[u8], state: State) -> Written
+        ensures { λ r. ⌜ r ≡ F.coreStartOf (lentAll (now (bundle .entry)) (now (curves .entry)) (now (decays .entry))) state ⌝ }
     {
         let fresh = refresh::refresh(bundle, state);
         let refreshed = fresh.answer;
         let controls = fresh.controls;
         let valid = answers::unless(state.is_valid(), Answer::Argument);
-        let judged = answers::first(valid, refreshed);
+        let decayed = answers::first(transients::judge_decays(decays), refreshed);
+        let judged = answers::first(valid, decayed);
         Written {
             answer: answers::first(judge_lent(bundle, curves), judged),
             core: Core {
@@ -182,19 +183,21 @@ impl Core {
         )
     }
 
-    // The same with the filter's controls as they are: mode and volume have no part in them. Refuses 3, 6.
+    // The same with the filter's controls as they are: mode and volume have no part in them. The charges are judged last. Refuses 3, 6.
     fn reselected(self, bundle: &[u8], state: State, topology: MixingTopology) -> Written
         ensures { λ r. ⌜ r ≡ F.reselectedOf (now (bundle .entry)) self state topology ⌝ }
     {
         let registers = state.registers;
+        let transients = state.transients;
         let effective = state.effective_cutoff();
         let mut controls = self.controls;
         let gain = refresh::read_mode_output_gain(bundle, registers, effective);
         let output = controls::refresh_register_output_state(registers);
         controls.mode_output_gain = refresh::gain_value(gain);
         controls.output = output;
+        let charged = answers::unless(transients.finite_charges(), Answer::Domain);
         settled(
-            refresh::gain_answer(gain),
+            answers::first(refresh::gain_answer(gain), charged),
             self,
             Core {
                 state,
@@ -321,25 +324,26 @@ impl Core {
         self.write(bundle, Event::Reset)
     }
 
-    // One sample. Refuses 1, 2, 4, 10, 5, 3, 6.
+    // One sample, lent bundle and curves. Refuses 1, 2, 4, 10, 5, 3, 6.
     pub fn sample(self, bundle: &[u8], curves: &[u8], input_sum: f32, source_energy: f32) -> Fed
-        ensures { λ r. ⌜ r ≡ F.feedOf (lentOf (now (bundle .entry)) (now (curves .entry))) self (Sample «input_sum» «source_energy») ⌝ }
-    {
-        self.feed(
-            bundle,
-            curves,
-            Event::Sample {
-                input_sum,
-                source_energy,
-            },
-        )
-    }
-
-    // Any event. Refuses 1, 2, 4, 10, and then as its method does.
-    pub fn feed(self, bundle: &[u8], curves: &[u8], event: Event) -> Fed
-        ensures { λ r. ⌜ r ≡ F.feedOf (lentOf (now (bundle .entry)) (now (curves .entry))) self event ⌝ }
+        ensures { λ r. ⌜ r ≡ F.coreSampleOf (lentOf (now (bundle .entry)) (now (curves .entry))) self «input_sum» «source_energy» ⌝ }
     {
         let judged = answers::first(judge_lent(bundle, curves), self.judge());
+        if answers::is_done(judged) {
+            return self.take(bundle, curves, input_sum, source_energy);
+        }
+        quiet(Written {
+            answer: judged,
+            core: self,
+        })
+    }
+
+    // Any event, lent all that a list is lent. Refuses 1, 2, 4, 10, 12, and then as its method does.
+    pub fn feed(self, bundle: &[u8], curves: &[u8], decays: &[u8], event: Event) -> Fed
+        ensures { λ r. ⌜ r ≡ F.feedOf (lentAll (now (bundle .entry)) (now (curves .entry)) (now (decays .entry))) self event ⌝ }
+    {
+        let known = answers::first(judge_lent(bundle, curves), self.judge());
+        let judged = answers::first(known, transients::judge_decays(decays));
         if answers::is_done(judged) {
             return self.feed_event(bundle, curves, event);
         }

@@ -14,13 +14,13 @@ use lib.Dec.{T, ltb, eqb, lit<}
 use lib.Pow.{pow-add, pow-pos}
 use lib.Ieee.{Float, nan, inf, fin, Format, binary32, binary64, prec, low, hid, ones, top, up, down, lt, eq, ne, neg, ofFields, ofBits, toBits, fits, isNan, nanBits, toUnsigned, toSigned, ofInt}
 use lib.Ieee.Scale.{finite}
-use lib.Ieee.Bits.{ofBits-toBits, toBits-lt, nanBits-is}
+use lib.Ieee.Bits.{ofBits-toBits, toBits-lt, nanBits-is, is-true}
 use lib.Ieee.Digits.{back}
 use lib.Ieee.Compare.{differs-from-itself}
 use lib.Ieee.Exact.{HasValue, odd-sign}
 use lib.Ieee.Fits.{down-pos}
 use lib.Ieee.Nearest.{div-same}
-use Rattle.floats.specs.Floats.{absOf, ofSmall}
+use Rattle.floats.specs.Floats.{absOf, finiteF32Of, ofSmall}
 
 -- ---- two tests at once
 
@@ -46,6 +46,20 @@ finite-tests nan = refl
 finite-tests (inf true) = refl
 finite-tests (inf false) = refl
 finite-tests (fin s m e) = refl
+
+-- ---- a finite f32, from what an operation's result is known to be and back
+
+pub finite-f32 : (x : Float) → T (fits binary32 x) → finite x ≡ true → finiteF32Of x ≡ true
+unfolding finiteF32Of
+finite-f32 x f h = rw (is-true (fits binary32 x) f, h)
+
+pub f32-fits : (x : Float) → finiteF32Of x ≡ true → T (fits binary32 x)
+unfolding finiteF32Of
+f32-fits x h = subst T (sym (both (fits binary32 x) (finite x) h .0)) tt
+
+pub f32-finite : (x : Float) → finiteF32Of x ≡ true → finite x ≡ true
+unfolding finiteF32Of
+f32-finite x h = both (fits binary32 x) (finite x) h .1
 
 -- ---- the sign bit
 

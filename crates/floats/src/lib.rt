@@ -8,7 +8,7 @@ ghost use lib.Ieee.{binary32, binary64, isNan, ofFields, ofInt, toUnsigned, toSi
 ghost use Prim.Native.Nat.{_<_, _≤_};
 ghost use lib.Ieee.Scale.{finite};
 ghost use lib.Ieee.Nearest.{closest as closestOf};
-ghost use Rattle.floats.specs.Floats.{absOf, clampOf, roundOf, narrowOf, ofSmall};
+ghost use Rattle.floats.specs.Floats.{absOf, clampOf, roundOf, narrowOf, finiteF32Of, ofSmall};
 
 // x.abs(), by clearing the sign bit.
 pub fn abs(x: f32) -> f32
@@ -39,6 +39,13 @@ pub fn is_finite(x: f32) -> bool
 {
     let top = 1.0f32 / 0.0;
     (x < top) & (-top < x)
+}
+
+// The same, with what its type says: a finite f32 as a field of a valid state is.
+pub fn finite_f32(x: f32) -> bool
+    ensures { λ r. ⌜ r ≡ finiteF32Of x ⌝ }
+{
+    is_finite(x)
 }
 
 // The same of an f64.

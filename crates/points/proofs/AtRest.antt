@@ -9,9 +9,9 @@ use Rattle.floats.specs.Arithmetic.{f32}
 use Rattle.bundle.specs.Opening.{Accepted}
 use Rattle.curves.specs.Building.{buildCurvesOf}
 use Rattle.direct.proofs.WholeLoads.{Rests, bundle-checked, built-long, call-rests}
-use Rattle.filter.specs.Lent.{lentOf, judgeLentOf}
+use Rattle.filter.specs.Lent.{lentOf, judgeTablesOf}
 use Rattle.points.specs.Points.{summerCallOf}
 
 pub nibble-rests : (bundle : List ℕ) → Accepted bundle → (sum : Float) → eq sum (f32 0) ≡ true → Rests (summerCallOf (lentOf bundle (buildCurvesOf bundle)) 0 sum)
-unfolding summerCallOf judgeLentOf
+unfolding summerCallOf judgeTablesOf
 nibble-rests bundle a sum silent = rw (bundle-checked bundle a, built-long bundle a) (call-rests bundle a 0 sum silent)

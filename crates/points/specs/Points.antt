@@ -16,12 +16,13 @@ use Rattle.control.specs.Block.{decodeOf}
 use Rattle.curves.specs.declared.CurvePoint.{CurvePoint}
 use Rattle.curves.specs.Sampling.{noPoint}
 use Rattle.curves.specs.Building.{judgeLengthOf}
+use Rattle.controls.specs.Judging.{judgeControlsOf}
 use Rattle.sample.specs.Sample.{summerSlotOf, summerPointOf, isIdleOf, judgeInputOf}
 use Rattle.direct.specs.declared.Pointed.{Pointed}
 use Rattle.direct.specs.Calls.{summerTransferCallOf, mixerTransferCallOf}
 use Rattle.filter.specs.Lent.{Lent, judgeLentOf}
 use Rattle.filter.specs.Core.{freshTopologyOf}
-use Rattle.filter.specs.Plain.{plainStart, plainSample}
+use Rattle.filter.specs.Plain.{plainSample}
 
 -- A refused call stands on no curve.
 abbrev pub refusedOf : Answer → Pointed
@@ -49,9 +50,9 @@ statePointOf l s sum =
     let t = freshTopologyOf s in
     cond (isIdleOf (t .«filter_input_count») (s .integrator)) noPoint (summerPointOf (l .bundle) (l .curves) (summerSlotOf t) t sum)
 
--- 5, then as the plain machine's start, by the controls, and as its sample
+-- 5, then the controls' 3 and 6, as at the plain machine's start, and then as its sample
 unfoldable pub sampleRefusalOf : Lent → State → Float → Float → Answer
-sampleRefusalOf l s sum energy = firstOf (judgeInputOf sum energy) (firstOf (plainStart l s) (plainSample l s sum energy .answer))
+sampleRefusalOf l s sum energy = firstOf (judgeInputOf sum energy) (firstOf (judgeControlsOf (l .bundle) s) (plainSample l s sum energy .answer))
 
 abbrev pub pointedOf : Lent → DecodedState → Float → Float → Pointed
 pointedOf l Invalid sum energy = refusedOf (firstOf (judgeLentOf l) Argument)

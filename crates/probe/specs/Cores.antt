@@ -40,10 +40,10 @@ registeredOf r = record {
 }
 
 abbrev pub handedCoreOf : Handed → Core
-handedCoreOf h = record { state = record { registers = registersOf (h .registers); integrator = h .integrator }; topology = h .topology; controls = h .controls }
+handedCoreOf h = record { state = record { registers = registersOf (h .registers); integrator = h .integrator; transients = h .transients }; topology = h .topology; controls = h .controls }
 
 abbrev pub handedOf : Core → Handed
-handedOf k = record { registers = registeredOf (k .state .registers); integrator = k .state .integrator; topology = k .topology; controls = k .controls }
+handedOf k = record { registers = registeredOf (k .state .registers); integrator = k .state .integrator; transients = k .state .transients; topology = k .topology; controls = k .controls }
 
 -- an answer by its numbers, the outputs, and the core
 abbrev pub givenOf : Fed → Given

@@ -1,7 +1,7 @@
 // The core: an event on any core that is handed in.
 ghost use mathlib.Core.Path.{_≡_};
 ghost use Rattle.script.specs.Script.{eventAt};
-ghost use Rattle.filter.specs.Lent.{lentOf};
+ghost use Rattle.filter.specs.Lent.{lentAll};
 ghost use Rattle.probe.specs.Cores as K;
 use answers::Answer;
 use control::FilterRegisters;
@@ -12,6 +12,7 @@ use filter::Fed;
 use integrator::IntegratorState;
 use mixing::MixingTopology;
 use sample::Outputs;
+use transients::TransientState;
 
 // The registers as C lays them out.
 #[repr(C)]
@@ -31,6 +32,7 @@ pub struct Registers {
 pub struct Handed {
     pub registers: Registers,
     pub integrator: IntegratorState,
+    pub transients: TransientState,
     pub topology: MixingTopology,
     pub controls: ControlCache,
 }
@@ -65,6 +67,7 @@ fn taken(h: Handed) -> Core
 {
     let r = h.registers;
     let integrator = h.integrator;
+    let transients = h.transients;
     let topology = h.topology;
     let controls = h.controls;
     let registers = fields(r);
@@ -72,6 +75,7 @@ fn taken(h: Handed) -> Core
         state: State {
             registers,
             integrator,
+            transients,
         },
         topology,
         controls,
@@ -101,10 +105,12 @@ fn hand(k: Core) -> Handed
     let controls = k.controls;
     let r = state.registers;
     let integrator = state.integrator;
+    let transients = state.transients;
     let registers = registered(r);
     Handed {
         registers,
         integrator,
+        transients,
         topology,
         controls,
     }
@@ -128,12 +134,19 @@ fn numbers(f: Fed) -> Given
 }
 
 // The event at a place of a script, and 7 where there is none.
-fn fed_at(bundle: &[u8], curves: &[u8], core: Core, script: &[u8], place: usize) -> Fed
-    ensures { λ r. ⌜ r ≡ K.fedAtOf (lentOf (now (bundle .entry)) (now (curves .entry))) core (eventAt (now (script .entry)) place) ⌝ }
+fn fed_at(
+    bundle: &[u8],
+    curves: &[u8],
+    decays: &[u8],
+    core: Core,
+    script: &[u8],
+    place: usize,
+) -> Fed
+    ensures { λ r. ⌜ r ≡ K.fedAtOf (lentAll (now (bundle .entry)) (now (curves .entry)) (now (decays .entry))) core (eventAt (now (script .entry)) place) ⌝ }
 {
     let decoded = script::event_at(script, place);
     match decoded {
-        script::DecodedEvent::Readable(event) => core.feed(bundle, curves, event),
+        script::DecodedEvent::Readable(event) => core.feed(bundle, curves, decays, event),
         script::DecodedEvent::Unreadable => Fed {
             answer: Answer::Script,
             outputs: Outputs {
@@ -149,8 +162,14 @@ fn fed_at(bundle: &[u8], curves: &[u8], core: Core, script: &[u8], place: usize)
 
 // One event of twelve bytes on the core that is handed in.
 #[no_mangle]
-pub extern "C" fn probe_feed(bundle: &[u8], curves: &[u8], core: Handed, event: &[u8]) -> Given
-    ensures { λ r. ⌜ r ≡ K.givenOf (K.fedAtOf (lentOf (now (bundle .entry)) (now (curves .entry))) (K.handedCoreOf core) (eventAt (now (event .entry)) 0)) ⌝ }
+pub extern "C" fn probe_feed(
+    bundle: &[u8],
+    curves: &[u8],
+    decays: &[u8],
+    core: Handed,
+    event: &[u8],
+) -> Given
+    ensures { λ r. ⌜ r ≡ K.givenOf (K.fedAtOf (lentAll (now (bundle .entry)) (now (curves .entry)) (now (decays .entry))) (K.handedCoreOf core) (eventAt (now (event .entry)) 0)) ⌝ }
 {
-    numbers(fed_at(bundle, curves, taken(core), event, 0))
+    numbers(fed_at(bundle, curves, decays, taken(core), event, 0))
 }

@@ -14,10 +14,17 @@ use mixing::MixingTopology;
 use sample::Outputs;
 
 // The event at a place of a script, and 7 where there is none.
-fn fed_at(bundle: &[u8], curves: &[u8], core: Core, script: &[u8], place: usize) -> Fed {
+fn fed_at(
+    bundle: &[u8],
+    curves: &[u8],
+    decays: &[u8],
+    core: Core,
+    script: &[u8],
+    place: usize,
+) -> Fed {
     let decoded = script::event_at(script, place);
     match decoded {
-        script::DecodedEvent::Readable(event) => core.feed(bundle, curves, event),
+        script::DecodedEvent::Readable(event) => core.feed(bundle, curves, decays, event),
         script::DecodedEvent::Unreadable => Fed {
             answer: Answer::Script,
             outputs: Outputs {
@@ -41,8 +48,8 @@ fn state_or(block: &[u8]) -> State {
 }
 
 // What the start answers, as an event would, and the first core.
-fn started(bundle: &[u8], curves: &[u8], state: State) -> Fed {
-    let written = Core::start(bundle, curves, state);
+fn started(bundle: &[u8], curves: &[u8], decays: &[u8], state: State) -> Fed {
+    let written = Core::start(bundle, curves, decays, state);
     let answer = written.answer;
     let core = written.core;
     Fed {
@@ -57,7 +64,7 @@ fn started(bundle: &[u8], curves: &[u8], state: State) -> Fed {
     }
 }
 
-// ---- rows: 97 words that follow an event
+// ---- rows: 108 words that follow an event
 
 // A count, and 65,536 for any that is larger.
 fn word(n: usize) -> u32 {
@@ -89,7 +96,7 @@ fn put_sixteen(out: &mut [u8], at: usize, x: [f32; 16])
 }
 
 fn put_state(out: &mut [u8], at: usize, s: State) {
-    let mut block = [0u8; 24];
+    let mut block = [0u8; 68];
     s.encode(&mut block);
     wire::put(out, at, &block);
 }
@@ -205,10 +212,10 @@ fn put_core(out: &mut [u8], at: usize, k: Core)
     let filter = controls.filter;
     let output = controls.output;
     put_state(out, at, state);
-    put_topology(out, at + 24, topology);
-    put_filter(out, at + 92, filter);
-    wire::put_f32(out, at + 324, controls.mode_output_gain);
-    put_output(out, at + 328, output);
+    put_topology(out, at + 68, topology);
+    put_filter(out, at + 136, filter);
+    wire::put_f32(out, at + 368, controls.mode_output_gain);
+    put_output(out, at + 372, output);
 }
 
 // The row of an event.
@@ -236,20 +243,21 @@ fn events(script: &[u8]) -> usize
 pub extern "C" fn probe_cores(
     bundle: &[u8],
     curves: &[u8],
+    decays: &[u8],
     block: &[u8],
     script: &[u8],
     out: &mut [u8],
 )
     ensures { λ _. ⌜ length (now (out .exit)) ≡ length (now (out .entry)) ⌝ }
 {
-    let mut fed = started(bundle, curves, state_or(block));
+    let mut fed = started(bundle, curves, decays, state_or(block));
     let count = events(script);
     put_fed(out, 0, fed);
     let mut i = 0;
     while i < count {
         let core = fed.core;
-        fed = fed_at(bundle, curves, core, script, 8 + 12 * i);
+        fed = fed_at(bundle, curves, decays, core, script, 8 + 12 * i);
         i += 1;
-        put_fed(out, 388 * i, fed);
+        put_fed(out, 432 * i, fed);
     }
 }

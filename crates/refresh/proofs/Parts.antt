@@ -24,7 +24,7 @@ use Rattle.bundle.specs.declared.Read.the-variants.{Value, Refused}
 use Rattle.bundle.specs.Reading.{readOf}
 use Rattle.bundle.proofs.Laws.{judge-done}
 use Rattle.control.specs.declared.State.{State}
-use Rattle.control.specs.Registers.{displacedOf, effectiveCutoffOf}
+use Rattle.control.specs.Registers.{displacedOf, ofRegisters, effectiveCutoffOf}
 use Rattle.controls.specs.declared.FilterControls.{FilterControls}
 use Rattle.controls.specs.declared.OutputControls.{OutputControls}
 use Rattle.controls.specs.declared.ControlCache.{ControlCache}
@@ -112,6 +112,11 @@ judged-by-parts bundle s r =
         let done : judgeFilterOf bundle (effectiveCutoffOf s) (s .registers .resonance) ≡ Done = is ∙ done-is filter h in
         simp (done, h, filter-finite bundle (effectiveCutoffOf s) (s .registers .resonance) (effective-small s) r done)
     go filter is false h = simp (is, h, h)
+
+-- of a state its registers alone are read
+pub judged-by-registers : (bundle : List ℕ) (s : State) → judgedOf bundle (ofRegisters (s .registers)) ≡ judgedOf bundle s
+unfolding judgeControlsOf judgeEntriesOf judgeDomainOf controlsOf
+judged-by-registers bundle s = refl
 
 -- the answer beside a gain that was read
 pub gain-answer : (judged : Answer) (x : Float) → gainAnswerOf (readOf judged x) ≡ judged

@@ -3,6 +3,7 @@
 ghost use mathlib.Core.Path.{_≡_};
 ghost use Rattle.controls.specs.Controls.{refreshFilterControlsOf};
 ghost use Rattle.controls.specs.Judging.{judgeFilterOf};
+ghost use Rattle.control.specs.Registers.{ofRegisters};
 ghost use Rattle.refresh.specs.Refresh as R;
 use answers::Answer;
 use answers::Buffer;
@@ -279,8 +280,15 @@ pub fn judge_controls(bundle: &[u8], state: State) -> Judged
     ensures { λ r. ⌜ r ≡ R.judgedOf (now (bundle .entry)) state ⌝ }
 {
     let registers = state.registers;
+    judge_registers(bundle, registers)
+}
+
+// The same by the registers, which are all of a state that its controls are worked out from.
+pub fn judge_registers(bundle: &[u8], registers: FilterRegisters) -> Judged
+    ensures { λ r. ⌜ r ≡ R.judgedOf (now (bundle .entry)) (ofRegisters registers) ⌝ }
+{
     let resonance = registers.resonance;
-    let effective = state.effective_cutoff();
+    let effective = registers.effective_cutoff();
     let filter = judge_filter(bundle, effective, resonance);
     let gain = read_mode_output_gain(bundle, registers, effective);
     Judged {

@@ -8,10 +8,12 @@ use mathlib.Core.List.{List, [], _∷_, _++_, append-assoc}
 use lib.ListN.{length, drop, length-append}
 use lib.Seq.{take-at}
 use borrow.Author.Tests.{le-leb}
+use Rattle.answers.specs.declared.Answer.{Answer}
 use Rattle.answers.specs.declared.Answer.the-variants.{Done}
-use Rattle.answers.specs.Answers.{isDoneOf}
-use Rattle.answers.proofs.Laws.{done-is, first-of-done}
+use Rattle.answers.specs.Answers.{firstOf, isDoneOf}
+use Rattle.answers.proofs.Laws.{done-is, first-assoc, first-of-done}
 use Rattle.wire.specs.Wire.{Bytes}
+use Rattle.transients.specs.Block.{judgeDecaysOf}
 use Rattle.control.specs.declared.State.{State}
 use Rattle.control.specs.declared.DecodedState.the-variants.{Valid}
 use Rattle.control.specs.Block.{validOf, blockOf, decodeOf}
@@ -69,7 +71,7 @@ module _ (lent : Lent) where
 
   -- ---- with the start of each run
 
-  module _ (ready : judgeLentOf lent ≡ Done) (s : State) (valid : validOf s ≡ true) where
+  module _ (s : State) (valid : validOf s ≡ true) where
     abbrev started : Bool
     started = isDoneOf (judgeControlsOf (lent .bundle) s)
 
@@ -81,7 +83,7 @@ module _ (lent : Lent) where
     played-valid es = go started refl
       where
         go : (d : Bool) → started ≡ d → validOf (cond d (playOf lent s es) (stopped (judgeControlsOf (lent .bundle) s) s) .state) ≡ true
-        go true h = good-play lent ready s es (good h) .valid
+        go true h = good-play lent s es (good h) .valid
         go false h = valid
 
     played-cut : (es fs : List Event) → playedOf lent s (es ++ fs) ≡ andThen (playedOf lent s es) (λ t. playedOf lent t fs)
@@ -96,7 +98,7 @@ module _ (lent : Lent) where
             ≡ andThen (cond d (playOf lent s es) (stopped (judgeControlsOf (lent .bundle) s) s)) (λ t. playedOf lent t fs)
         go true h =
             let r = playOf lent s es in
-            play-cut s es fs ∙ ap (λ (x : Ran). cond (isDoneOf (r .answer)) (join r x) r) (restart (r .state) (good-play lent ready s es (good h)))
+            play-cut s es fs ∙ ap (λ (x : Ran). cond (isDoneOf (r .answer)) (join r x) r) (restart (r .state) (good-play lent s es (good h)))
         go false h = rw h refl
 
 -- ---- on bytes
@@ -115,33 +117,41 @@ told-then false r t = refl
 
 -- ---- a piece from a valid state: it is judged by what is lent alone
 
+-- 1, 2, 4, 12: between them comes the 10 of the block, which is valid
+abbrev lentJudged : Lent → Answer
+lentJudged lent = firstOf (judgeLentOf lent) (judgeDecaysOf (lent .decays))
+
 module _ (lent : Lent) (s : State) (v : validOf s ≡ true) where
   abbrev run-told : Piece → Told
   run-told p = told (runOf lent (blockOf s) (p .script) (p .output))
 
   module _ (p : Piece) (fine : Ready p) where
-    run-judged : judgeRunOf lent (blockOf s) (p .script) (length (p .output)) ≡ judgeLentOf lent
+    run-judged : judgeRunOf lent (blockOf s) (p .script) (length (p .output)) ≡ lentJudged lent
     unfolding judgeRunOf judgeScriptOf
-    run-judged = rw (decode-block s v, fine .0, le-leb (16 * samplesOf (eventsOf (p .script))) (length (p .output)) (fine .1)) (first-of-done (judgeLentOf lent))
+    run-judged = rw (decode-block s v, fine .0, le-leb (16 * samplesOf (eventsOf (p .script))) (length (p .output)) (fine .1), first-of-done (judgeDecaysOf (lent .decays))) refl
 
-    piece-told : judgeLentOf lent ≡ Done → run-told p ≡ toldRan (playedOf lent s (eventsOf (p .script)))
+    piece-told : lentJudged lent ≡ Done → run-told p ≡ toldRan (playedOf lent s (eventsOf (p .script)))
     unfolding runOf
     piece-told ready = rw (run-judged ∙ ready, fields-block s v) (told-left (playedOf lent s (eventsOf (p .script))) (p .output))
 
-    piece-refused : isDoneOf (judgeLentOf lent) ≡ false → run-told p ≡ toldRan (stopped (judgeLentOf lent) s)
+    piece-refused : isDoneOf (lentJudged lent) ≡ false → run-told p ≡ toldRan (stopped (lentJudged lent) s)
     unfolding runOf sampleBytes
     piece-refused h = rw (run-judged, h) refl
 
 -- ---- the plain machine beside a run
 
-module _ (lent : Lent) (s : State) (es : List Event) where
-  plain-goes : judgeLentOf lent ≡ Done → validOf s ≡ true → toldRan (playedOf lent s es) ≡ plainTold lent s es
-  unfolding plainTold plainStart playedOf
-  plain-goes ready v = rw (ready, v) refl
+module _ (lent : Lent) (s : State) (es : List Event) (v : validOf s ≡ true) where
+  start-lent : plainStart lent s ≡ firstOf (lentJudged lent) (judgeControlsOf (lent .bundle) s)
+  unfolding plainStart
+  start-lent = rw v (sym (first-assoc (judgeLentOf lent) (judgeDecaysOf (lent .decays)) (judgeControlsOf (lent .bundle) s)))
 
-  plain-stops : isDoneOf (judgeLentOf lent) ≡ false → toldRan (stopped (judgeLentOf lent) s) ≡ plainTold lent s es
-  unfolding plainTold plainStart
-  plain-stops h = rw (h, h) refl
+  plain-goes : lentJudged lent ≡ Done → toldRan (playedOf lent s es) ≡ plainTold lent s es
+  unfolding plainTold playedOf
+  plain-goes ready = rw (start-lent, ready) refl
+
+  plain-stops : isDoneOf (lentJudged lent) ≡ false → toldRan (stopped (lentJudged lent) s) ≡ plainTold lent s es
+  unfolding plainTold
+  plain-stops h = let is : plainStart lent s ≡ lentJudged lent = start-lent ∙ rw h refl in rw (is, h) refl
 
 -- ---- any list of pieces
 
@@ -150,7 +160,7 @@ module _ (lent : Lent) where
   abbrev onward : Piece → List Piece → Told → Told
   onward q rest t = cond (isDoneOf (t .answer)) (joinTold t (piecesOf lent (t .block) q rest)) t
 
-  pieces-told : judgeLentOf lent ≡ Done → (s : State) (p : Piece) (rest : List Piece) → validOf s ≡ true → AllReady p rest
+  pieces-told : lentJudged lent ≡ Done → (s : State) (p : Piece) (rest : List Piece) → validOf s ≡ true → AllReady p rest
       → piecesOf lent (blockOf s) p rest ≡ toldRan (playedOf lent s (eventsOfAll p rest))
   unfolding piecesOf
   pieces-told ready s p [] v fine = piece-told lent s v p fine ready
@@ -158,23 +168,23 @@ module _ (lent : Lent) where
       let es = eventsOf (p .script) in
       let r = playedOf lent s es in
       ap (onward q rest) (piece-told lent s v p (fine .0) ready)
-      ∙ ap (λ (x : Told). cond (isDoneOf (r .answer)) (joinTold (toldRan r) x) (toldRan r)) (pieces-told ready (r .state) q rest (played-valid lent ready s v es) (fine .1))
+      ∙ ap (λ (x : Told). cond (isDoneOf (r .answer)) (joinTold (toldRan r) x) (toldRan r)) (pieces-told ready (r .state) q rest (played-valid lent s v es) (fine .1))
       ∙ told-then (isDoneOf (r .answer)) r (playedOf lent (r .state) (eventsOfAll q rest))
-      ∙ ap toldRan (sym (played-cut lent ready s v es (eventsOfAll q rest)))
+      ∙ ap toldRan (sym (played-cut lent s v es (eventsOfAll q rest)))
 
-  pieces-refused : isDoneOf (judgeLentOf lent) ≡ false → (s : State) (p : Piece) (rest : List Piece) → validOf s ≡ true → AllReady p rest
-      → piecesOf lent (blockOf s) p rest ≡ toldRan (stopped (judgeLentOf lent) s)
+  pieces-refused : isDoneOf (lentJudged lent) ≡ false → (s : State) (p : Piece) (rest : List Piece) → validOf s ≡ true → AllReady p rest
+      → piecesOf lent (blockOf s) p rest ≡ toldRan (stopped (lentJudged lent) s)
   unfolding piecesOf
   pieces-refused h s p [] v fine = piece-refused lent s v p fine h
   pieces-refused h s p (q ∷ rest) v fine = ap (onward q rest) (piece-refused lent s v p (fine .0) h) ∙ rw h refl
 
   -- the plain machine beside them
   pieces-plain : (s : State) (p : Piece) (rest : List Piece) → validOf s ≡ true → AllReady p rest → piecesOf lent (blockOf s) p rest ≡ plainTold lent s (eventsOfAll p rest)
-  pieces-plain s p rest v fine = go (isDoneOf (judgeLentOf lent)) refl
+  pieces-plain s p rest v fine = go (isDoneOf (lentJudged lent)) refl
     where
-      go : (d : Bool) → isDoneOf (judgeLentOf lent) ≡ d → piecesOf lent (blockOf s) p rest ≡ plainTold lent s (eventsOfAll p rest)
-      go true h = let ready = done-is (judgeLentOf lent) h in pieces-told ready s p rest v fine ∙ plain-goes lent s (eventsOfAll p rest) ready v
-      go false h = pieces-refused h s p rest v fine ∙ plain-stops lent s (eventsOfAll p rest) h
+      go : (d : Bool) → isDoneOf (lentJudged lent) ≡ d → piecesOf lent (blockOf s) p rest ≡ plainTold lent s (eventsOfAll p rest)
+      go true h = let ready = done-is (lentJudged lent) h in pieces-told ready s p rest v fine ∙ plain-goes lent s (eventsOfAll p rest) v ready
+      go false h = pieces-refused h s p rest v fine ∙ plain-stops lent s (eventsOfAll p rest) v h
 
 -- DEMAND 3, the second half. From every valid state block and for every list of pieces, one or more, each a well-formed script, empty ones too, with an output that has room: samples,
 -- end state, events done, samples written and refusal of the joined pieces are the plain machine's on all their events, however many these are. Where the events are those of one script,

@@ -7,6 +7,7 @@ use lib.ListN.{length}
 use Rattle.answers.specs.declared.Answer.the-variants.{Done}
 use Rattle.answers.specs.Answers.{isDoneOf}
 use Rattle.answers.proofs.Laws.{done-is}
+use Rattle.transients.specs.Block.{judgeDecaysOf}
 use Rattle.control.specs.declared.State.{State}
 use Rattle.control.specs.Block.{validOf, fieldsOf}
 use Rattle.control.proofs.RoundTrip.{decoded}
@@ -30,11 +31,11 @@ play-trace lent s (e ∷ es) =
     let p = plainStep lent s e in
     ap (λ (r : Ran). cond (isDoneOf (p .answer)) (went p r) (stopped (p .answer) s)) (play-trace lent (p .state) es)
 
-module _ (lent : Lent) (s : State) (es : List Event) (ready : judgeLentOf lent ≡ Done) (valid : validOf s ≡ true) where
+module _ (lent : Lent) (s : State) (es : List Event) (ready : judgeLentOf lent ≡ Done) (decayed : judgeDecaysOf (lent .decays) ≡ Done) (valid : validOf s ≡ true) where
   -- the start is judged by its controls alone
   start-is : plainStart lent s ≡ judgeControlsOf (lent .bundle) s
   unfolding plainStart
-  start-is = rw (ready, valid) refl
+  start-is = rw (ready, valid, decayed) refl
 
   played-core : playedOf lent s es ≡ coreRan lent s es
   unfolding playedOf
@@ -54,6 +55,6 @@ pub run-is-core : (lent : Lent) (block script output : List ℕ) → judgeRunOf 
     → runOf lent block script output ≡ leftOf (coreRan lent (fieldsOf block) (eventsOf script)) output
 unfolding runOf
 run-is-core lent block script output judged =
-    let ready = parts lent block script (length output) judged .0 in
+    let p = parts lent block script (length output) judged in
     let valid = decoded block (fieldsOf block) (block-valid lent block script (length output) judged) .valid in
-    rw judged (ap (λ (r : Ran). leftOf r output) (played-core lent (fieldsOf block) (eventsOf script) ready valid))
+    rw judged (ap (λ (r : Ran). leftOf r output) (played-core lent (fieldsOf block) (eventsOf script) (p .0) (p .2) valid))

@@ -22,7 +22,6 @@ use Rattle.control.specs.Block.{validOf}
 use Rattle.control.proofs.Valid.{valid-ranges}
 use Rattle.controls.specs.declared.ControlCache.{ControlCache}
 use Rattle.controls.specs.Controls.{refreshFilterControlsOf, controlsOf}
-use Rattle.controls.specs.Judging.{judgeControlsOf}
 use Rattle.refresh.specs.Refresh.{stateGainOf}
 use Rattle.refresh.proofs.Parts.{state-gain}
 use Rattle.sample.specs.declared.Outputs.{Outputs}
@@ -38,9 +37,9 @@ use Rattle.script.specs.declared.DecodedEvent.the-variants.{Readable, Unreadabl
 use Rattle.script.specs.Script.{eventAt, allReadable, eventsIn, sampleCountOf, samplesOf}
 use Rattle.script.proofs.Laws.{slicesFrom, all-next, events-next, all-stop, events-end}
 use Rattle.script.proofs.Cut.{length-slices, length-events}
-use Rattle.filter.specs.Lent.{Lent, judgeLentOf}
+use Rattle.filter.specs.Lent.{Lent}
 use Rattle.filter.specs.Core.{freshTopologyOf, withIntegrator}
-use Rattle.filter.specs.Plain.{Plain, refusedAt, plainChange, plainTaken, judgePlain, plainSampled, plainSample, plainStep}
+use Rattle.filter.specs.Plain.{Plain, refusedAt, judgeChangeOf, plainChange, plainTaken, judgePlain, plainSampled, plainSample, plainStep}
 use Rattle.filter.proofs.Demand3.{refuses, sample-refuses, sample-plain}
 use Rattle.run.specs.declared.Asked.{Asked}
 use Rattle.run.specs.declared.Row.{Row}
@@ -81,13 +80,13 @@ module _ (script : List ℕ) (count : ℕ) where
 
 -- ---- samples in a row are the plain machine's
 
-module _ (lent : Lent) (ready : judgeLentOf lent ≡ Done) where
+module _ (lent : Lent) where
   abbrev play : State → List Event → Ran
   play s es = playOf lent s es
 
   -- on what is worked out from the state
   abbrev rowAt : State → IntegratorState → List Event → Samples
-  rowAt s i es = rowOf lent (freshTopologyOf s) (controlsOf (lent .bundle) s) (s .registers .mode) i es
+  rowAt s i es = rowOf (lent .bundle) (lent .curves) (freshTopologyOf s) (controlsOf (lent .bundle) s) (s .registers .mode) i es
 
   abbrev freshSample : State → Float → Float → Sampled
   freshSample s sum energy =
@@ -195,7 +194,7 @@ module _ (lent : Lent) (ready : judgeLentOf lent ≡ Done) where
           → RowLaw s (Sample sum energy ∷ es) (rowOn (λ j. rowAt s j es) (s .integrator) x)
       go (Taken o j) h on =
           let p = plain (Taken o j) h in
-          let g : Good lent (withIntegrator s j) = subst (λ (x : Plain). Good lent (x .state)) p (good-step lent ready s (Sample sum energy) good) in
+          let g : Good lent (withIntegrator s j) = subst (λ (x : Plain). Good lent (x .state)) p (good-step lent s (Sample sum energy) good) in
           taken-row s good sum energy es o j p (rowAt s j es) (moved s j es (on (withIntegrator s j) g))
       go (Refused answer) h on =
           refused-row s good (Sample sum energy) es answer (off _ answer (sample-refuses (lent .bundle) (lent .curves) _ _ _ _ (s .integrator) sum energy) h)
@@ -204,9 +203,9 @@ module _ (lent : Lent) (ready : judgeLentOf lent ≡ Done) where
 -- ---- samples that an event gives
 
 change-quiet : (lent : Lent) (s t : State) → plainChange lent s t .sample ≡ []
-change-quiet lent s t = go (isDoneOf (judgeControlsOf (lent .bundle) t))
+change-quiet lent s t = go (isDoneOf (judgeChangeOf (lent .bundle) t))
   where
-    go : (d : Bool) → _≡_ {A = List Outputs} (cond d (record { answer = Done; sample = []; state = t }) (refusedAt s (judgeControlsOf (lent .bundle) t)) .sample) []
+    go : (d : Bool) → _≡_ {A = List Outputs} (cond d (record { answer = Done; sample = []; state = t }) (refusedAt s (judgeChangeOf (lent .bundle) t)) .sample) []
     go true = refl
     go false = refl
 
@@ -251,22 +250,22 @@ played-few lent s (e ∷ es) = go (isDoneOf (plainStep lent s e .answer)) (playe
 
 -- ---- samples on the parts that they share
 
-row-same-samples : (lent : Lent) (t : MixingTopology) (c d : ControlCache) (mode : ℕ)
+row-same-samples : (bundle curves : List ℕ) (t : MixingTopology) (c d : ControlCache) (mode : ℕ)
     →
-    ((j : IntegratorState) (sum energy : Float) → filterSampleOf (lent .bundle) (lent .curves) (summerSlotOf t) t c mode j sum energy ≡ filterSampleOf (lent .bundle)
-    (lent .curves) (summerSlotOf t) t d mode j sum energy)
-    → (i : IntegratorState) (es : List Event) → rowOf lent t c mode i es ≡ rowOf lent t d mode i es
+    ((j : IntegratorState) (sum energy : Float) → filterSampleOf bundle curves (summerSlotOf t) t c mode j sum energy ≡ filterSampleOf bundle
+    curves (summerSlotOf t) t d mode j sum energy)
+    → (i : IntegratorState) (es : List Event) → rowOf bundle curves t c mode i es ≡ rowOf bundle curves t d mode i es
 unfolding rowOf
-row-same-samples lent t c d mode same i [] = refl
-row-same-samples lent t c d mode same i (e ∷ es) =
+row-same-samples bundle curves t c d mode same i [] = refl
+row-same-samples bundle curves t c d mode same i (e ∷ es) =
     let x = askedOf e .«input_sum» in
     let y = askedOf e .«source_energy» in
-    ap (λ (z : Sampled). cond (askedOf e .sample) (rowOn (λ j. rowOf lent t c mode j es) i z) (noSamples Done i)) (same i x y)
+    ap (λ (z : Sampled). cond (askedOf e .sample) (rowOn (λ j. rowOf bundle curves t c mode j es) i z) (noSamples Done i)) (same i x y)
     ∙ ap (λ (z : Samples). cond (askedOf e .sample) z (noSamples Done i))
-    (on (filterSampleOf (lent .bundle) (lent .curves) (summerSlotOf t) t d mode i x y) (λ j. row-same-samples lent t c d mode same j es))
+    (on (filterSampleOf bundle curves (summerSlotOf t) t d mode i x y) (λ j. row-same-samples bundle curves t c d mode same j es))
   where
-    on : (z : Sampled) → ((j : IntegratorState) → rowOf lent t c mode j es ≡ rowOf lent t d mode j es)
-        → rowOn (λ j. rowOf lent t c mode j es) i z ≡ rowOn (λ j. rowOf lent t d mode j es) i z
+    on : (z : Sampled) → ((j : IntegratorState) → rowOf bundle curves t c mode j es ≡ rowOf bundle curves t d mode j es)
+        → rowOn (λ j. rowOf bundle curves t c mode j es) i z ≡ rowOn (λ j. rowOf bundle curves t d mode j es) i z
     on (Taken o j) later = ap (oneMore o) (later j)
     on (Refused answer) later = refl
 
@@ -317,20 +316,20 @@ module _ (lent : Lent) (script : List ℕ) (count : ℕ) (s₀ : State) (out₀ 
   pub sofar-start : Good lent s₀ → allReadable (slicesFrom script count 0) ≡ true → 16 * samplesOf (remaining 0) ≤ length out₀ → Sofar out₀ s₀ 0 0
   sofar-start g r m = record { within = omega arith; few = omega arith; readable = r; good = g; long = refl; room = omega arith; ends = refl; puts = refl }
 
-  module _ (ready : judgeLentOf lent ≡ Done) (out : List ℕ) (s : State) (samples i : ℕ) (far : Sofar out s samples i) where
+  module _ (out : List ℕ) (s : State) (samples i : ℕ) (far : Sofar out s samples i) where
     pub at-end : count ≤ i → Finished Done i samples s out
     unfolding playOf
     at-end h = finishes Done i samples s out (playOf lent s (remaining i)) (ap (playOf lent s) (events-end script count i h)) (far .ends) (far .puts)
 
     -- the samples in a row from here
     abbrev row : Samples
-    row = freshRow lent ready s (remaining i)
+    row = freshRow lent s (remaining i)
 
     abbrev rowBytes : List ℕ
     rowBytes = sampleBytes (row .outputs)
 
-    law : RowLaw lent ready s (remaining i) row
-    law = row-law lent ready s (remaining i) (far .good)
+    law : RowLaw lent s (remaining i) row
+    law = row-law lent s (remaining i) (far .good)
 
     row-within : i + row .events ≤ count
     row-within =
@@ -347,7 +346,7 @@ module _ (lent : Lent) (script : List ℕ) (count : ℕ) (s₀ : State) (out₀ 
       then = playOf lent (withIntegrator s (row .integrator)) (remaining (i + row .events))
 
       row-same : playOf lent s (remaining i) ≡ record { answer = then .answer; events = row .events + then .events; samples = row .outputs ++ then .samples; state = then .state }
-      row-same = law .same ∙ ap (λ (es : List Event). rowThen lent ready s row (playOf lent (withIntegrator s (row .integrator)) es)) (on .1) ∙ rw d refl
+      row-same = law .same ∙ ap (λ (es : List Event). rowThen lent s row (playOf lent (withIntegrator s (row .integrator)) es)) (on .1) ∙ rw d refl
 
       pub row-done : Sofar (putAt out (16 * samples) rowBytes) (withIntegrator s (row .integrator)) (samples + length (row .outputs)) (i + row .events)
       row-done =
@@ -394,8 +393,8 @@ module _ (lent : Lent) (script : List ℕ) (count : ℕ) (s₀ : State) (out₀ 
     abbrev moves : Moves
     moves = movesOf (lent .bundle) s (remaining i)
 
-    moves-are : MovesLaw lent ready s (remaining i) moves
-    moves-are = moves-law lent ready s (remaining i) (far .good)
+    moves-are : MovesLaw lent s (remaining i) moves
+    moves-are = moves-law lent s (remaining i) (far .good)
 
     moves-within : i + moves .events ≤ count
     moves-within =
@@ -439,21 +438,21 @@ module _ (lent : Lent) (script : List ℕ) (count : ℕ) (s₀ : State) (out₀ 
 
   -- ---- as the code has it
 
-  module _ (ready : judgeLentOf lent ≡ Done) (out : List ℕ) (s : State) (samples i : ℕ) (far : Sofar out s samples i) where
+  module _ (out : List ℕ) (s : State) (samples i : ℕ) (far : Sofar out s samples i) where
     abbrev shared : Samples
-    shared = samplesFrom lent s script count i
+    shared = samplesFrom (lent .bundle) (lent .curves) s script count i
 
-    row-fresh : shared ≡ row ready out s samples i far
+    row-fresh : shared ≡ row out s samples i far
     unfolding partsOf
     row-fresh =
-        row-same-samples lent (freshTopologyOf s) (cacheOfParts (partsOf (lent .bundle) s)) (controlsOf (lent .bundle) s) (s .registers .mode)
+        row-same-samples (lent .bundle) (lent .curves) (freshTopologyOf s) (cacheOfParts (partsOf (lent .bundle) s)) (controlsOf (lent .bundle) s) (s .registers .mode)
         (λ j sum energy. parts-sample lent s (far .good) j sum energy) (s .integrator) (remaining i)
 
     -- a row of samples
     module _ {r : Row} (is-row : r ≡ rowEnd i samples shared) {after : List ℕ} (is-after : after ≡ putAt out (16 * samples) (sampleBytes (shared .outputs))) {d : Bool}
         (is-d : d ≡ isDoneOf (r .answer)) where
       abbrev w : Samples
-      w = row ready out s samples i far
+      w = row out s samples i far
 
       r-is : r ≡ rowEnd i samples w
       r-is = is-row ∙ ap (rowEnd i samples) row-fresh
@@ -465,10 +464,10 @@ module _ (lent : Lent) (script : List ℕ) (count : ℕ) (s₀ : State) (out₀ 
       d-is b h = ap (λ (x : Row). isDoneOf (x .answer)) (sym r-is) ∙ sym is-d ∙ h
 
       pub row-goes : d ≡ true → Sofar after (withIntegrator s (r .integrator)) (r .samples) (r .events)
-      row-goes h = rw (r-is, after-is) (row-done ready out s samples i far (d-is true h))
+      row-goes h = rw (r-is, after-is) (row-done out s samples i far (d-is true h))
 
       pub row-stops : d ≡ false → Finished (r .answer) (r .events) (r .samples) (withIntegrator s (r .integrator)) after
-      row-stops h = rw (r-is, after-is) (row-stopped ready out s samples i far (d-is false h))
+      row-stops h = rw (r-is, after-is) (row-stopped out s samples i far (d-is false h))
 
       -- it has one sample at least
       pub row-moves : i < count → (e : Event) → eventAt script (8 + 12 * i) ≡ Readable e → {ask : Asked} → ask ≡ askedOf e → ask .sample ≡ true → d ≡ true → i < r .events
@@ -477,7 +476,7 @@ module _ (lent : Lent) (script : List ℕ) (count : ℕ) (s₀ : State) (out₀ 
           go : (n : ℕ) → w .events ≡ n → i < i + n
           go zero z =
               let here : drop (w .events) (remaining i) ≡ e ∷ remaining (i + 1) = ap (λ (n : ℕ). drop n (remaining i)) z ∙ events-next script count i more e at in
-              absurd (true≢false (sym wanted ∙ ap (λ (a : Asked). a .sample) asks ∙ law ready out s samples i far .ends e (remaining (i + 1)) (d-is true h) here))
+              absurd (true≢false (sym wanted ∙ ap (λ (a : Asked). a .sample) asks ∙ law out s samples i far .ends e (remaining (i + 1)) (d-is true h) here))
           go (suc n) z = omega arith
 
     -- a row of other events
@@ -486,26 +485,26 @@ module _ (lent : Lent) (script : List ℕ) (count : ℕ) (s₀ : State) (out₀ 
       m-is b h = ap (λ (x : Moved). isDoneOf (x .answer)) (sym is-m) ∙ sym is-d ∙ h
 
       pub moves-go : d ≡ true → Sofar out (m .state) samples (m .events)
-      moves-go h = rw is-m (moves-done ready out s samples i far (m-is true h))
+      moves-go h = rw is-m (moves-done out s samples i far (m-is true h))
 
       pub moves-stop : d ≡ false → Finished (m .answer) (m .events) samples (m .state) out
-      moves-stop h = rw is-m (moves-stopped ready out s samples i far (m-is false h))
+      moves-stop h = rw is-m (moves-stopped out s samples i far (m-is false h))
 
       -- it has one event at least
       pub moves-move : i < count → (e : Event) → eventAt script (8 + 12 * i) ≡ Readable e → {ask : Asked} → ask ≡ askedOf e → ask .sample ≡ false → d ≡ true → i < m .events
       moves-move more e at asks other h =
           let next = events-next script count i more e at in
-          let some = moves-some lent ready s e (remaining (i + 1)) (ap (λ (a : Asked). a .sample) (sym asks) ∙ other)
+          let some = moves-some lent s e (remaining (i + 1)) (ap (λ (a : Asked). a .sample) (sym asks) ∙ other)
           (ap (λ (es : List Event). isDoneOf (movesOf (lent .bundle) s es .answer)) (sym next) ∙ m-is true h) in
           let here = subst (λ (es : List Event). zero < movesOf (lent .bundle) s es .events) (sym next) some in
           rw is-m (omega arith)
 
     pub unreadable : i < count → eventAt script (8 + 12 * i) ≡ Unreadable → ⊥
-    unreadable = readable-here ready out s samples i far
+    unreadable = readable-here out s samples i far
 
   -- ---- one turn: other events in a row, then samples in a row
 
-  module _ (ready : judgeLentOf lent ≡ Done) (out : List ℕ) (s : State) (samples i : ℕ) (far : Sofar out s samples i) {m : Moved}
+  module _ (out : List ℕ) (s : State) (samples i : ℕ) (far : Sofar out s samples i) {m : Moved}
       (is-m : m ≡ movesEnd (lent .bundle) i (movesOf (lent .bundle) s (remaining i))) where
     -- where the first row is empty, a sample comes
     first-empty : (e : Event) → askedOf e .sample ≡ true → remaining i ≡ e ∷ remaining (i + 1) → m .events ≡ i
@@ -514,8 +513,8 @@ module _ (lent : Lent) (script : List ℕ) (count : ℕ) (s₀ : State) (out₀ 
 
     -- the two rows are not both empty
     pub turn-moves : i < count → {d : Bool} → d ≡ isDoneOf (m .answer) → d ≡ true → (then : Sofar out (m .state) samples (m .events))
-        → {r : Row} → r ≡ rowEnd (m .events) samples (samplesFrom lent (m .state) script count (m .events)) → {after : List ℕ}
-        → after ≡ putAt out (16 * samples) (sampleBytes (samplesFrom lent (m .state) script count (m .events) .outputs))
+        → {r : Row} → r ≡ rowEnd (m .events) samples (samplesFrom (lent .bundle) (lent .curves) (m .state) script count (m .events)) → {after : List ℕ}
+        → after ≡ putAt out (16 * samples) (sampleBytes (samplesFrom (lent .bundle) (lent .curves) (m .state) script count (m .events) .outputs))
         → {f : Bool} → f ≡ isDoneOf (r .answer) → f ≡ true → i < r .events
     turn-moves more is-d d then {r} is-r is-after is-f f = go (eventAt script (8 + 12 * i)) refl
       where
@@ -525,13 +524,13 @@ module _ (lent : Lent) (script : List ℕ) (count : ℕ) (s₀ : State) (out₀ 
         sampled : (e : Event) → eventAt script (8 + 12 * i) ≡ Readable e → (b : Bool) → askedOf e .sample ≡ b → i < r .events
         sampled e at true a =
             let here : m .events ≡ i = first-empty e a (events-next script count i more e at) in
-            let moves = row-moves ready out (m .state) samples (m .events) then is-r is-after is-f (rw here more) e (rw here at) refl a f in
+            let moves = row-moves out (m .state) samples (m .events) then is-r is-after is-f (rw here more) e (rw here at) refl a f in
             omega arith
-        sampled e at false a = let moves = moves-move ready out s samples i far is-m is-d more e at refl a d in omega (arith, onto)
+        sampled e at false a = let moves = moves-move out s samples i far is-m is-d more e at refl a d in omega (arith, onto)
 
         go : (x : DecodedEvent) → eventAt script (8 + 12 * i) ≡ x → i < r .events
         go (Readable e) at = sampled e at (askedOf e .sample) refl
-        go Unreadable at = absurd (unreadable ready out s samples i far more at)
+        go Unreadable at = absurd (unreadable out s samples i far more at)
 
   -- ---- what the loop keeps beside: the mode's gain, and the summer's rest at the count that it was worked out for
 

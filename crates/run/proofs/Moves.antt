@@ -8,12 +8,15 @@ use mathlib.Core.List.{List, [], _∷_}
 use lib.ListN.{length, drop}
 use lib.Ieee.{Float}
 use Rattle.answers.specs.declared.Answer.{Answer}
-use Rattle.answers.specs.declared.Answer.the-variants.{Done}
-use Rattle.answers.specs.Answers.{isDoneOf}
+use Rattle.answers.specs.declared.Answer.the-variants.{Done, Domain}
+use Rattle.answers.specs.Answers.{unlessOf, isDoneOf}
 use Rattle.answers.proofs.Laws.{done-is}
+use Rattle.transients.specs.declared.TransientState.{TransientState}
+use Rattle.transients.specs.Transients.{chargeOf, finiteChargesOf}
+use Rattle.control.specs.declared.FilterRegisters.{FilterRegisters}
 use Rattle.control.specs.declared.State.{State}
+use Rattle.control.specs.Registers.{startingState, ofRegisters}
 use Rattle.control.specs.Block.{validOf}
-use Rattle.controls.specs.Judging.{judgeControlsOf}
 use Rattle.refresh.specs.declared.Judged.{Judged}
 use Rattle.refresh.specs.Refresh.{stateGainOf, judgedOf}
 use Rattle.script.specs.declared.Event.{Event}
@@ -21,14 +24,15 @@ use Rattle.script.specs.declared.Event.the-variants.{CutoffLow, CutoffHigh, Rou
 use Rattle.script.specs.declared.DecodedEvent.the-variants.{Readable, Unreadable}
 use Rattle.script.specs.Script.{eventAt, allReadable, eventsIn, sampleCountOf, samplesOf}
 use Rattle.script.proofs.Laws.{slicesFrom, all-next, events-next, all-stop, events-end}
-use Rattle.filter.specs.Lent.{Lent, judgeLentOf}
-use Rattle.filter.specs.Plain.{plainChange, plainStep}
+use Rattle.filter.specs.Lent.{Lent}
+use Rattle.filter.specs.Plain.{judgeChangeOf, plainChange, plainStep}
+use Rattle.filter.proofs.Demand3.{change-parts}
 use Rattle.run.specs.declared.Asked.{Asked}
 use Rattle.run.specs.declared.Moved.{Moved}
 use Rattle.run.specs.Run.{Ran, went, playOf}
-use Rattle.run.specs.Rows.{Moves, askedOf, nextOf, noMoves, oneMove, movesOf}
+use Rattle.run.specs.Rows.{Moves, askedOf, nextOf, chargesOf, resetsOf, noMoves, oneMove, movesOf}
 use Rattle.run.specs.Parts.{movesEnd}
-use Rattle.run.proofs.Changes.{next-valid, plain-is}
+use Rattle.run.proofs.Changes.{next-valid, withNext, quiet-next, charged-next, reset-next, controls-judged, controls-refused, quiet-judged, charge-judged, plain-is}
 use Rattle.run.proofs.Good.{Good}
 
 -- ---- the loop
@@ -66,42 +70,82 @@ module _ (bundle script : List ℕ) (count start : ℕ) (from : State) where
       pub unreadable : eventAt script (8 + 12 * i) ≡ Unreadable → ⊥
       unreadable h = true≢false (sym (far .readable) ∙ all-stop script count i more h)
 
-      module _ (e : Event) (is : eventAt script (8 + 12 * i) ≡ Readable e) {ask : Asked} (asks : ask ≡ askedOf e) where
+      module _ (e : Event) (is-e : eventAt script (8 + 12 * i) ≡ Readable e) {ask : Asked} (asks : ask ≡ askedOf e) where
         asked-is : (b : Bool) → ask .sample ≡ b → askedOf e .sample ≡ b
         asked-is b h = ap (λ (a : Asked). a .sample) (sym asks) ∙ h
 
         next : left i ≡ e ∷ left (i + 1)
-        next = events-next script count i more e is
+        next = events-next script count i more e is-e
 
         pub sampled : ask .sample ≡ true → Ends Done
         unfolding movesOf
         sampled a = stops Done (ap (movesOf bundle s) next ∙ rw (asked-is true a) refl)
 
-        module _ (other : ask .sample ≡ false) {t : State} (is-t : t ≡ nextOf s e) {j : Judged} (is-j : j ≡ judgedOf bundle t) {d : Bool} (is-d : d ≡ isDoneOf (j .answer)) where
-          answer-is : j .answer ≡ judgeControlsOf bundle (nextOf s e)
-          answer-is = ap (λ (x : Judged). x .answer) is-j ∙ rw is-t refl
-
-          judged-here : (b : Bool) → d ≡ b → isDoneOf (judgeControlsOf bundle (nextOf s e)) ≡ b
-          judged-here b h = ap isDoneOf (sym answer-is) ∙ sym is-d ∙ h
+        module _ (other : ask .sample ≡ false) {r : FilterRegisters} (is-r : r ≡ nextOf (ofRegisters (s .registers)) e .registers) {j : Judged} (is-j : j ≡ judgedOf bundle (ofRegisters r))
+            {d : Bool} (is-d : d ≡ isDoneOf (j .answer)) where
+          -- refused, with what is judged of the event
+          refuses : (answer : Answer) → answer ≡ judgeChangeOf bundle (nextOf s e) → isDoneOf answer ≡ false → Ends answer
+          unfolding movesOf
+          refuses answer is off = stops answer (ap (movesOf bundle s) next ∙ rw (asked-is false other, ← is, off) refl)
 
           pub refused : d ≡ false → Ends (j .answer)
-          unfolding movesOf
-          refused h = rw answer-is (stops (judgeControlsOf bundle (nextOf s e)) (ap (movesOf bundle s) next ∙ rw (asked-is false other, judged-here false h) refl))
+          refused h = let off = sym is-d ∙ h in refuses (j .answer) (controls-refused s (far .valid) e is-r bundle is-j off) off
 
-          pub moved : d ≡ true → Sofar t (j .gain) (i + 1)
-          unfolding movesOf
-          moved h =
-              let n = nextOf s e in
-              let whole : moves s i ≡ oneMove (moves n (i + 1)) = ap (movesOf bundle s) next ∙ rw (asked-is false other, judged-here true h) refl in
-              let events : i + 1 + moves n (i + 1) .events ≡ i + suc (moves n (i + 1) .events) = omega arith in
-              rw (is-j, is-t)
-              (record {
-                within = omega arith;
-                readable = sym (all-next script count i more e is) ∙ far .readable;
-                valid = next-valid s (far .valid) e;
-                gained = refl;
-                ends = rw events (sym (ap (movesEnd bundle i) whole) ∙ far .ends);
-              })
+          module _ (done : d ≡ true) where
+            passed : isDoneOf (j .answer) ≡ true
+            passed = sym is-d ∙ done
+
+            -- the state after a turn, with the registers put in last
+            abbrev after : State → State
+            after x = withNext s (far .valid) e is-r x
+
+            goes : (x : State) → x ≡ nextOf s e → judgeChangeOf bundle (nextOf s e) ≡ Done → Sofar x (j .gain) (i + 1)
+            unfolding movesOf
+            goes x is judged =
+                let n = nextOf s e in
+                let whole : moves s i ≡ oneMove (moves n (i + 1)) = ap (movesOf bundle s) next ∙ rw (asked-is false other, judged) refl in
+                let events : i + 1 + moves n (i + 1) .events ≡ i + suc (moves n (i + 1) .events) = omega arith in
+                rw is
+                (record {
+                  within = omega arith;
+                  readable = sym (all-next script count i more e is-e) ∙ far .readable;
+                  valid = next-valid s (far .valid) e (change-parts bundle n judged .1);
+                  gained = ap (λ (x : Judged). x .gain) (controls-judged s (far .valid) e is-r bundle is-j);
+                  ends = rw events (sym (ap (movesEnd bundle i) whole) ∙ far .ends);
+                })
+
+            module _ {charges : Bool} (is-charges : charges ≡ chargesOf e) where
+              -- what is known where the charges are moved or left: the event is judged, and but for a reset the state is the next one
+              pub record Charged (x : State) : Type 0 where
+                pub judged : judgeChangeOf bundle (nextOf s e) ≡ Done
+                pub same : resetsOf e ≡ false → after x ≡ nextOf s e
+
+              pub charge-none : charges ≡ false → {x : State} → x ≡ s → Charged x
+              charge-none h is =
+                  let c = sym is-charges ∙ h in
+                  record { judged = quiet-judged s (far .valid) e is-r bundle is-j passed c; same = λ d. ap after is ∙ quiet-next s (far .valid) e is-r c d }
+
+              module _ (h : charges ≡ true) {t : TransientState} (is-t : t ≡ chargeOf (s .transients) (r .volume)) {f : Bool} (is-f : f ≡ finiteChargesOf t) where
+                judged-by : judgeChangeOf bundle (nextOf s e) ≡ unlessOf f Domain
+                judged-by = charge-judged s (far .valid) e is-r bundle is-j passed (sym is-charges ∙ h) is-t ∙ rw is-f refl
+
+                pub overflows : f ≡ false → Ends Domain
+                overflows off = refuses Domain (sym (judged-by ∙ rw off refl)) refl
+
+                pub charge-goes : f ≡ true → {x : State} → x ≡ record { registers = s .registers; integrator = s .integrator; transients = t } → Charged x
+                charge-goes on is =
+                    record {
+                      judged = judged-by ∙ rw on refl;
+                      same = λ d. ap after is ∙ rw is-t (charged-next s (far .valid) e is-r (sym is-charges ∙ h));
+                    }
+
+              module _ {x : State} (charged : Charged x) {resets : Bool} (is-resets : resets ≡ resetsOf e) where
+                pub reset-none : resets ≡ false → {y : State} → y ≡ x → Sofar (after y) (j .gain) (i + 1)
+                reset-none h {y} is = goes (after y) (ap after is ∙ charged .same (sym is-resets ∙ h)) (charged .judged)
+
+                pub reset-goes : resets ≡ true → {n : State} → n ≡ startingState → {y : State} → y ≡ record { registers = x .registers; integrator = n .integrator; transients = n .transients }
+                    → Sofar (after y) (j .gain) (i + 1)
+                reset-goes h is-n {y} is = goes (after y) (ap after is ∙ rw is-n (reset-next s (far .valid) e is-r (sym is-resets ∙ h))) (charged .judged)
 
 -- ---- the row is the plain machine's
 
@@ -114,7 +158,7 @@ other-none (Mode v) h = refl
 other-none (Sample sum energy) h = absurd (true≢false h)
 other-none Reset h = refl
 
-module _ (lent : Lent) (ready : judgeLentOf lent ≡ Done) where
+module _ (lent : Lent) where
   -- the row, and then the rest if it was not refused
   abbrev movesThen : Moves → Ran → Ran
   movesThen m r =
@@ -136,11 +180,11 @@ module _ (lent : Lent) (ready : judgeLentOf lent ≡ Done) where
       plain : plainStep lent s e ≡ plainChange lent s (nextOf s e)
       plain = plain-is lent s e other
 
-      stop : isDoneOf (judgeControlsOf (lent .bundle) (nextOf s e)) ≡ false → MovesLaw s (e ∷ es) (noMoves (judgeControlsOf (lent .bundle) (nextOf s e)) s)
+      stop : isDoneOf (judgeChangeOf (lent .bundle) (nextOf s e)) ≡ false → MovesLaw s (e ∷ es) (noMoves (judgeChangeOf (lent .bundle) (nextOf s e)) s)
       unfolding playOf
       stop h = record { same = rw (plain, h, h) refl; good = good; within = omega arith; rest = refl }
 
-      more : isDoneOf (judgeControlsOf (lent .bundle) (nextOf s e)) ≡ true → (m : Moves) → MovesLaw (nextOf s e) es m → MovesLaw s (e ∷ es) (oneMove m)
+      more : isDoneOf (judgeChangeOf (lent .bundle) (nextOf s e)) ≡ true → (m : Moves) → MovesLaw (nextOf s e) es m → MovesLaw s (e ∷ es) (oneMove m)
       unfolding playOf samplesOf
       more h m law =
           record {
@@ -162,14 +206,16 @@ module _ (lent : Lent) (ready : judgeLentOf lent ≡ Done) where
   pub moves-law : (s : State) (es : List Event) → Good lent s → MovesLaw s es (movesOf (lent .bundle) s es)
   unfolding movesOf
   moves-law s [] good = quiet s good []
-  moves-law s (e ∷ es) good = go (askedOf e .sample) refl (isDoneOf (judgeControlsOf (lent .bundle) (nextOf s e))) refl (λ g. moves-law (nextOf s e) es g)
+  moves-law s (e ∷ es) good = go (askedOf e .sample) refl (isDoneOf (judgeChangeOf (lent .bundle) (nextOf s e))) refl (λ g. moves-law (nextOf s e) es g)
     where
-      next-good : askedOf e .sample ≡ false → isDoneOf (judgeControlsOf (lent .bundle) (nextOf s e)) ≡ true → Good lent (nextOf s e)
-      next-good a h = record { valid = next-valid s (good .valid) e; judged = done-is (judgeControlsOf (lent .bundle) (nextOf s e)) h }
+      next-good : askedOf e .sample ≡ false → isDoneOf (judgeChangeOf (lent .bundle) (nextOf s e)) ≡ true → Good lent (nextOf s e)
+      next-good a h =
+          let p = change-parts (lent .bundle) (nextOf s e) (done-is (judgeChangeOf (lent .bundle) (nextOf s e)) h) in
+          record { valid = next-valid s (good .valid) e (p .1); judged = p .0 }
 
-      go : (a : Bool) → askedOf e .sample ≡ a → (d : Bool) → isDoneOf (judgeControlsOf (lent .bundle) (nextOf s e)) ≡ d
+      go : (a : Bool) → askedOf e .sample ≡ a → (d : Bool) → isDoneOf (judgeChangeOf (lent .bundle) (nextOf s e)) ≡ d
           → (Good lent (nextOf s e) → MovesLaw (nextOf s e) es (movesOf (lent .bundle) (nextOf s e) es))
-          → MovesLaw s (e ∷ es) (cond a (noMoves Done s) (cond d (oneMove (movesOf (lent .bundle) (nextOf s e) es)) (noMoves (judgeControlsOf (lent .bundle) (nextOf s e)) s)))
+          → MovesLaw s (e ∷ es) (cond a (noMoves Done s) (cond d (oneMove (movesOf (lent .bundle) (nextOf s e) es)) (noMoves (judgeChangeOf (lent .bundle) (nextOf s e)) s)))
       go true a d h on = quiet s good (e ∷ es)
       go false a true h on = more s good e es a h (movesOf (lent .bundle) (nextOf s e) es) (on (next-good a h))
       go false a false h on = stop s good e es a h
@@ -178,10 +224,10 @@ module _ (lent : Lent) (ready : judgeLentOf lent ≡ Done) where
   pub moves-some : (s : State) (e : Event) (es : List Event) → askedOf e .sample ≡ false → isDoneOf (movesOf (lent .bundle) s (e ∷ es) .answer) ≡ true
       → zero < movesOf (lent .bundle) s (e ∷ es) .events
   unfolding movesOf
-  moves-some s e es other = rw other (go (isDoneOf (judgeControlsOf (lent .bundle) (nextOf s e))) refl)
+  moves-some s e es other = rw other (go (isDoneOf (judgeChangeOf (lent .bundle) (nextOf s e))) refl)
     where
-      go : (d : Bool) → isDoneOf (judgeControlsOf (lent .bundle) (nextOf s e)) ≡ d
-          → isDoneOf (cond d (oneMove (movesOf (lent .bundle) (nextOf s e) es)) (noMoves (judgeControlsOf (lent .bundle) (nextOf s e)) s) .answer) ≡ true
-          → zero < cond d (oneMove (movesOf (lent .bundle) (nextOf s e) es)) (noMoves (judgeControlsOf (lent .bundle) (nextOf s e)) s) .events
+      go : (d : Bool) → isDoneOf (judgeChangeOf (lent .bundle) (nextOf s e)) ≡ d
+          → isDoneOf (cond d (oneMove (movesOf (lent .bundle) (nextOf s e) es)) (noMoves (judgeChangeOf (lent .bundle) (nextOf s e)) s) .answer) ≡ true
+          → zero < cond d (oneMove (movesOf (lent .bundle) (nextOf s e) es)) (noMoves (judgeChangeOf (lent .bundle) (nextOf s e)) s) .events
       go true h done = omega arith
       go false h done = absurd (true≢false (sym done ∙ h))

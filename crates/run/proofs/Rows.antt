@@ -20,7 +20,6 @@ use Rattle.sample.specs.Sample.{summerSlotOf, filterSampleOf}
 use Rattle.sample.specs.Parts.{cacheOf, restOf, sampleFromPartsOf}
 use Rattle.sample.proofs.Parts.{parts-are-sample}
 use Rattle.constants.specs.Drives.{inputDrivesOf, feedbackDrivesOf}
-use Rattle.filter.specs.Lent.{Lent}
 use Rattle.run.specs.declared.Parts.{Parts}
 use Rattle.control.specs.declared.State.{State}
 use Rattle.run.specs.Parts.{partsOf, cacheOfParts}
@@ -43,13 +42,13 @@ unfolding partsOf
 rest-is bundle s is = rw is refl
 
 pub parts-sample :
-    (lent : Lent) (s : State) {k : Parts} → k ≡ partsOf (lent .bundle) s → (mode : ℕ)
+    (bundle curves : List ℕ) (s : State) {k : Parts} → k ≡ partsOf bundle s → (mode : ℕ)
     → {drives feedback : List Float} → drives ≡ inputDrivesOf → feedback ≡ feedbackDrivesOf → {slot : ℕ} → slot ≡ summerSlotOf (k .topology)
     → (i : IntegratorState) (sum energy : Float)
-    → sampleFromPartsOf (lent .curves) slot (k .topology) (cacheOf (k .gains) drives feedback (k .core) (k .«mode_output_gain»)) (k .rest) mode i sum energy
-    ≡ filterSampleOf (lent .bundle) (lent .curves) (summerSlotOf (k .topology)) (k .topology) (cacheOfParts k) mode i sum energy
-parts-sample lent s {k} is mode hi hf hs i sum energy =
-    rw (hi, hf, hs, rest-is (lent .bundle) s is) (parts-are-sample (lent .bundle) (lent .curves) (summerSlotOf (k .topology)) (k .topology) (cacheOfParts k) mode i sum energy)
+    → sampleFromPartsOf curves slot (k .topology) (cacheOf (k .gains) drives feedback (k .core) (k .«mode_output_gain»)) (k .rest) mode i sum energy
+    ≡ filterSampleOf bundle curves (summerSlotOf (k .topology)) (k .topology) (cacheOfParts k) mode i sum energy
+parts-sample bundle curves s {k} is mode hi hf hs i sum energy =
+    rw (hi, hf, hs, rest-is bundle s is) (parts-are-sample bundle curves (summerSlotOf (k .topology)) (k .topology) (cacheOfParts k) mode i sum energy)
 
 -- ---- the samples among events
 
@@ -61,14 +60,14 @@ asked-one (Mode v) h = absurd (true≢false (sym h))
 asked-one (Sample sum energy) h = refl
 asked-one Reset h = absurd (true≢false (sym h))
 
-module _ (lent : Lent) (t : MixingTopology) (c : ControlCache) (mode : ℕ) where
+module _ (bundle curves : List ℕ) (t : MixingTopology) (c : ControlCache) (mode : ℕ) where
   abbrev row : IntegratorState → List Event → Samples
-  row i es = rowOf lent t c mode i es
+  row i es = rowOf bundle curves t c mode i es
 
   -- one sample at the front
   module _ (i : IntegratorState) (e : Event) (es : List Event) where
     abbrev sampled : Sampled
-    sampled = filterSampleOf (lent .bundle) (lent .curves) (summerSlotOf t) t c mode i (askedOf e .«input_sum») (askedOf e .«source_energy»)
+    sampled = filterSampleOf bundle curves (summerSlotOf t) t c mode i (askedOf e .«input_sum») (askedOf e .«source_energy»)
 
     row-taken : askedOf e .sample ≡ true → (o : Outputs) (j : IntegratorState) → sampled ≡ Taken o j → row i (e ∷ es) ≡ oneMore o (row j es)
     unfolding rowOf
@@ -87,8 +86,8 @@ module _ (lent : Lent) (t : MixingTopology) (c : ControlCache) (mode : ℕ) wher
   outputs-few i [] = omega arith
   outputs-few i (e ∷ es) = go (askedOf e .sample) refl (sampled i e es) (λ (j : IntegratorState). outputs-few j es)
     where
-      go : (a : Bool) → askedOf e .sample ≡ a → (x : Sampled) → ((j : IntegratorState) → length (rowOf lent t c mode j es .outputs) ≤ samplesOf es)
-          → length (cond a (rowOn (λ j. rowOf lent t c mode j es) i x) (noSamples Done i) .outputs) ≤ sampleCountOf e + samplesOf es
+      go : (a : Bool) → askedOf e .sample ≡ a → (x : Sampled) → ((j : IntegratorState) → length (rowOf bundle curves t c mode j es .outputs) ≤ samplesOf es)
+          → length (cond a (rowOn (λ j. rowOf bundle curves t c mode j es) i x) (noSamples Done i) .outputs) ≤ sampleCountOf e + samplesOf es
       go true h (Taken o j) later = omega (arith, later j, asked-one e h)
       go true h (Refused answer) later = omega arith
       go false h x later = omega arith
@@ -134,10 +133,10 @@ module _ (lent : Lent) (t : MixingTopology) (c : ControlCache) (mode : ℕ) wher
         module _ (e : Event) (is : eventAt script (8 + 12 * i) ≡ Readable e) {ask : Asked} (asks : ask ≡ askedOf e) where
           -- as the code has it, by what was asked
           abbrev taken : Sampled
-          taken = filterSampleOf (lent .bundle) (lent .curves) (summerSlotOf t) t c mode j (ask .«input_sum») (ask .«source_energy»)
+          taken = filterSampleOf bundle curves (summerSlotOf t) t c mode j (ask .«input_sum») (ask .«source_energy»)
 
           sample-is : (x : Sampled) → taken ≡ x → sampled j e [] ≡ x
-          sample-is x h = ap (λ (a : Asked). filterSampleOf (lent .bundle) (lent .curves) (summerSlotOf t) t c mode j (a .«input_sum») (a .«source_energy»)) (sym asks) ∙ h
+          sample-is x h = ap (λ (a : Asked). filterSampleOf bundle curves (summerSlotOf t) t c mode j (a .«input_sum») (a .«source_energy»)) (sym asks) ∙ h
 
           asked-is : (b : Bool) → ask .sample ≡ b → askedOf e .sample ≡ b
           asked-is b h = ap (λ (a : Asked). a .sample) (sym asks) ∙ h

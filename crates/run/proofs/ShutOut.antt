@@ -22,7 +22,7 @@ use Rattle.script.specs.declared.Event.the-variants.{CutoffLow, CutoffHigh, Rou
 use Rattle.script.specs.Script.{eventsOf, sampleCountOf, samplesOf}
 use Rattle.script.proofs.Cut.{samples-append}
 use Rattle.filter.specs.Lent.{Lent, judgeLentOf}
-use Rattle.filter.specs.Plain.{Plain, refusedAt, plainChange, plainTaken, judgePlain, plainSampled, plainSample, plainStep, plainTrace}
+use Rattle.filter.specs.Plain.{Plain, refusedAt, judgeChangeOf, plainChange, plainTaken, judgePlain, plainSampled, plainSample, plainStep, plainTrace}
 use Rattle.filter.proofs.Demand3.{refuses, taken-refuses}
 use Rattle.run.specs.Run.{Ran, stopped, went, playOf, playedOf, sampleBytes, judgeBlockOf, judgeRunOf, Run, leftOf, runOf}
 use Rattle.run.proofs.Bytes.{length-outputs}
@@ -91,9 +91,9 @@ module _ (lent : Lent) where
 
   -- A change takes no sample, a sample that is not refused takes one.
   change-counts : (s t : State) → length (plainChange lent s t .sample) ≡ 0
-  change-counts s t = go (isDoneOf (judgeControlsOf (lent .bundle) t))
+  change-counts s t = go (isDoneOf (judgeChangeOf (lent .bundle) t))
     where
-      go : (d : Bool) → length (cond d (record { answer = Done; sample = []; state = t }) (refusedAt s (judgeControlsOf (lent .bundle) t)) .sample) ≡ 0
+      go : (d : Bool) → length (cond d (record { answer = Done; sample = []; state = t }) (refusedAt s (judgeChangeOf (lent .bundle) t)) .sample) ≡ 0
       go true = refl
       go false = refl
 

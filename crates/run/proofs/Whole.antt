@@ -14,6 +14,7 @@ use Rattle.answers.specs.Answers.{firstOf, unlessOf, isDoneOf}
 use Rattle.answers.proofs.Laws.{done-is, first-done, unless-done}
 use Rattle.wire.specs.Wire.{Bytes, u32At, putAt}
 use Rattle.wire.proofs.Laws.{putAt-in, putAt-nil}
+use Rattle.transients.specs.Block.{judgeDecaysOf}
 use Rattle.control.specs.declared.State.{State}
 use Rattle.control.specs.declared.DecodedState.{DecodedState}
 use Rattle.control.specs.declared.DecodedState.the-variants.{Valid, Invalid}
@@ -107,8 +108,8 @@ module _ (lent : Lent) (script : List ℕ) (s : State) (valid : validOf s ≡ tr
       pub start-room : Room script count 0 output 0
       start-room = record { fewer = omega arith; room = rw (first-is, zero-add (samplesOf (eventsOf script))) (fitting script (length output) fine) }
 
-    pub start-from : judgeLentOf lent ≡ Done → Start lent s
-    start-from lent-is = record { ready = lent-is; valid = valid; judged = done-is (judgeControlsOf (lent .bundle) s) (done-here true t) }
+    pub start-from : Start (lent .bundle) s
+    start-from = record { valid = valid; judged = done-is (judgeControlsOf (lent .bundle) s) (done-here true t) }
 
 -- ---- what is judged before the controls
 
@@ -118,20 +119,21 @@ module _ (lent : Lent) (block script : List ℕ) (room : ℕ) where
   judged-invalid e h = rw (sym e ∙ h) refl
 
   pub judged-valid : (s : State) {x : DecodedState} → x ≡ decodeOf block → x ≡ Valid s
-      → firstOf (judgeLentOf lent) (judgeScriptOf script room) ≡ judgeRunOf lent block script room
+      → firstOf (judgeLentOf lent) (firstOf (judgeDecaysOf (lent .decays)) (judgeScriptOf script room)) ≡ judgeRunOf lent block script room
   unfolding judgeRunOf
   judged-valid s e h = rw (sym e ∙ h) refl
 
   module _ (judged : judgeRunOf lent block script room ≡ Done) where
-    pub parts : (judgeLentOf lent ≡ Done) × (judgeBlockOf block ≡ Done) × (judgeScriptOf script room ≡ Done)
+    pub parts : (judgeLentOf lent ≡ Done) × (judgeBlockOf block ≡ Done) × (judgeDecaysOf (lent .decays) ≡ Done) × (judgeScriptOf script room ≡ Done)
     unfolding judgeRunOf
     parts =
-        let p = first-done (judgeLentOf lent) (firstOf (judgeBlockOf block) (judgeScriptOf script room)) judged in
-        let q = first-done (judgeBlockOf block) (judgeScriptOf script room) (p .1) in
-        (p .0, q .0, q .1)
+        let p = first-done (judgeLentOf lent) _ judged in
+        let q = first-done (judgeBlockOf block) _ (p .1) in
+        let r = first-done (judgeDecaysOf (lent .decays)) (judgeScriptOf script room) (q .1) in
+        (p .0, q .0, r .0, r .1)
 
     pub roomy : 16 * samplesOf (eventsOf script) ≤ room
-    roomy = fitting script room (parts .2)
+    roomy = fitting script room (parts .3)
 
     pub block-valid : decodeOf block ≡ Valid (fieldsOf block)
     block-valid = go (decodeOf block) refl (unless-done (isValid (decodeOf block)) Argument refl (parts .1))
@@ -140,7 +142,7 @@ module _ (lent : Lent) (block script : List ℕ) (room : ℕ) where
         go (Valid s) e h = e ∙ ap Valid (sym (decoded block s e .fields))
         go Invalid e h = absurd (true≢false (sym h))
 
-    block-long : length block ≡ 24
+    block-long : length block ≡ 68
     block-long = decoded block (fieldsOf block) block-valid .long
 
     -- the block of the state that a block stands for is the block
@@ -176,21 +178,21 @@ module _ (lent : Lent) (block script output : List ℕ) (judged : judgeRunOf len
       × ((state ≡ runOf lent block script output .state) × (after ≡ runOf lent block script output .output))
   unfolding runOf encodeOf
   run-done is put left =
-      rw (put, left, is, judged, eq-eqb (length block) 24 (block-long lent block script (length output) judged), zero-add (ran .events), zero-add (length (ran .samples)))
+      rw (put, left, is, judged, eq-eqb (length block) 68 (block-long lent block script (length output) judged), zero-add (ran .events), zero-add (length (ran .samples)))
       (refl, (refl, front))
 
 -- from the state that the block stands for
 module _ (lent : Lent) (block script : List ℕ) (s : State) {x : DecodedState} (e : x ≡ decodeOf block) (h : x ≡ Valid s) where
-  module _ (room : ℕ) {a : Answer} (is-a : a ≡ firstOf (judgeLentOf lent) (judgeScriptOf script room)) where
+  module _ (room : ℕ) {a : Answer} (is-a : a ≡ firstOf (judgeLentOf lent) (firstOf (judgeDecaysOf (lent .decays)) (judgeScriptOf script room))) where
     pub valid-judged : a ≡ judgeRunOf lent block script room
     valid-judged = is-a ∙ judged-valid lent block script room s e h
 
-    pub valid-fine : a ≡ Done → (judgeLentOf lent ≡ Done) × (validOf s ≡ true) × (judgeScriptOf script room ≡ Done)
+    pub valid-fine : a ≡ Done → (validOf s ≡ true) × (judgeScriptOf script room ≡ Done)
     valid-fine done =
-        let p = first-done (judgeLentOf lent) (judgeScriptOf script room) (sym is-a ∙ done) in
-        (p .0, decoded block s (sym e ∙ h) .valid, p .1)
+        let later = first-done (judgeLentOf lent) _ (sym is-a ∙ done) .1 in
+        (decoded block s (sym e ∙ h) .valid, first-done (judgeDecaysOf (lent .decays)) (judgeScriptOf script room) later .1)
 
-  pub valid-done : (output : List ℕ) {a : Answer} → a ≡ firstOf (judgeLentOf lent) (judgeScriptOf script (length output)) → a ≡ Done
+  pub valid-done : (output : List ℕ) {a : Answer} → a ≡ firstOf (judgeLentOf lent) (firstOf (judgeDecaysOf (lent .decays)) (judgeScriptOf script (length output))) → a ≡ Done
       → {p : Played} → p ≡ playEnd 0 0 (playedOf lent s (eventsOf script)) → {after state : List ℕ}
       → after ≡ playPut output (playedOf lent s (eventsOf script)) → state ≡ encodeOf (p .state) block
       → (_≡_ {A = Ended} (record { answer = p .answer; events = p .events; samples = p .samples }) (endedOf (runOf lent block script output)))
@@ -254,7 +256,7 @@ run-most lent block script output = go (isDoneOf (judgeRunOf lent block script (
         (record { answer = judgeRunOf lent block script (length output); events = 0; samples = 0; state = block; output = output }) .samples ≤ 65536)
     go true h =
         let judged = done-is (judgeRunOf lent block script (length output)) h in
-        let f = formed script (length output) (parts lent block script (length output) judged .2) in
+        let f = formed script (length output) (parts lent block script (length output) judged .3) in
         let n = events-count script f in
         let few = header script f .few in
         let most = samples-most (eventsOf script) in
@@ -264,7 +266,7 @@ run-most lent block script output = go (isDoneOf (judgeRunOf lent block script (
         either : (d : Bool) → cond d (playOf lent (fieldsOf block) (eventsOf script)) (stopped (judgeControlsOf (lent .bundle) (fieldsOf block)) (fieldsOf block)) .events ≤ 65536
         either true =
             let judged = done-is (judgeRunOf lent block script (length output)) h in
-            let f = formed script (length output) (parts lent block script (length output) judged .2) in
+            let f = formed script (length output) (parts lent block script (length output) judged .3) in
             omega (arith, play-most lent (fieldsOf block) (eventsOf script), events-count script f, header script f .few)
         either false = omega arith
     go false h = (omega arith, omega arith)

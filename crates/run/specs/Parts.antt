@@ -26,7 +26,7 @@ use Rattle.sample.specs.Parts.{cacheOf, restOf}
 use Rattle.script.specs.declared.Event.{Event}
 use Rattle.script.specs.Script.{allReadable, eventsIn, samplesOf}
 use Rattle.script.proofs.Laws.{slicesFrom}
-use Rattle.filter.specs.Lent.{Lent, judgeLentOf}
+use Rattle.filter.specs.Lent.{Lent}
 use Rattle.filter.specs.Core.{freshTopologyOf}
 use Rattle.run.specs.declared.Parts.{Parts}
 use Rattle.run.specs.declared.Resting.{Resting}
@@ -78,10 +78,10 @@ pub record Given (bundle : List ℕ) (s : State) (gain : Float) (rest : Read) : 
   pub gained : gain ≡ stateGainOf bundle s
   pub rested : rest ≡ restOf bundle (freshTopologyOf s)
 
-abbrev pub samplesFrom : Lent → State → List ℕ → ℕ → ℕ → Samples
-samplesFrom lent s script count i =
-    let k = partsOf (lent .bundle) s in
-    rowOf lent (k .topology) (cacheOfParts k) (s .registers .mode) (s .integrator) (remainingOf script count i)
+abbrev pub samplesFrom : List ℕ → List ℕ → State → List ℕ → ℕ → ℕ → Samples
+samplesFrom bundle curves s script count i =
+    let k = partsOf bundle s in
+    rowOf bundle curves (k .topology) (cacheOfParts k) (s .registers .mode) (s .integrator) (remainingOf script count i)
 
 abbrev pub samplesPut : List ℕ → ℕ → Samples → List ℕ
 samplesPut output written r = putAt output (16 * written) (sampleBytes (r .outputs))
@@ -100,10 +100,9 @@ movesEnd bundle events m = record { answer = m .answer; events = events + m .eve
 
 -- ---- all events, from a state whose controls are not refused
 
-pub record Start (lent : Lent) (s : State) : Type 0 where
-  pub ready : judgeLentOf lent ≡ Done
+pub record Start (bundle : List ℕ) (s : State) : Type 0 where
   pub valid : validOf s ≡ true
-  pub judged : judgeControlsOf (lent .bundle) s ≡ Done
+  pub judged : judgeControlsOf bundle s ≡ Done
 
 abbrev pub playFrom : Lent → State → List ℕ → ℕ → Ran
 playFrom lent s script count = playOf lent s (remainingOf script count 0)

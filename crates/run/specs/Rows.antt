@@ -1,7 +1,7 @@
 -- How the run's loop takes its events: samples in a row, between which only the integrator moves, and other events in a row. What follows serves the proof of the
 -- loop; no promise is stated with it.
 use Prim.Native.Nat.{ℕ, suc, _+_}
-use mathlib.Core.Bool.{true, false, cond}
+use mathlib.Core.Bool.{Bool, true, false, cond}
 use mathlib.Core.List.{List, [], _∷_}
 use lib.ListN.{length}
 use Rattle.answers.specs.declared.Answer.{Answer}
@@ -11,7 +11,6 @@ use Rattle.floats.specs.Arithmetic.{f32}
 use Rattle.integrator.specs.declared.IntegratorState.{IntegratorState}
 use Rattle.control.specs.declared.State.{State}
 use Rattle.control.specs.Registers.{startingState, writeCutoffLowOf, writeCutoffHighOf, writeSignalRoutingOf, writeModeAndVolumeOf}
-use Rattle.controls.specs.Judging.{judgeControlsOf}
 use Rattle.mixing.specs.declared.MixingTopology.{MixingTopology}
 use Rattle.controls.specs.declared.ControlCache.{ControlCache}
 use Rattle.sample.specs.declared.Outputs.{Outputs}
@@ -20,7 +19,7 @@ use Rattle.sample.specs.declared.Sampled.the-variants.{Taken, Refused}
 use Rattle.sample.specs.Sample.{summerSlotOf, filterSampleOf}
 use Rattle.script.specs.declared.Event.{Event}
 use Rattle.script.specs.declared.Event.the-variants.{CutoffLow, CutoffHigh, Routing, Mode, Sample, Reset}
-use Rattle.filter.specs.Lent.{Lent}
+use Rattle.filter.specs.Plain.{judgeChangeOf}
 use Rattle.run.specs.declared.Asked.{Asked}
 use Rattle.run.specs.declared.Row.{Row}
 use Rattle.run.specs.declared.Played.{Played}
@@ -57,11 +56,11 @@ abbrev pub rowOn : (IntegratorState → Samples) → IntegratorState → Sampled
 rowOn later i (Taken o j) = oneMore o (later j)
 rowOn later i (Refused answer) = noSamples answer i
 
-unfoldable pub rowOf : Lent → MixingTopology → ControlCache → ℕ → IntegratorState → List Event → Samples
-rowOf lent t c mode i [] = noSamples Done i
-rowOf lent t c mode i (e ∷ es) =
+unfoldable pub rowOf : List ℕ → List ℕ → MixingTopology → ControlCache → ℕ → IntegratorState → List Event → Samples
+rowOf bundle curves t c mode i [] = noSamples Done i
+rowOf bundle curves t c mode i (e ∷ es) =
     cond (askedOf e .sample)
-    (rowOn (λ j. rowOf lent t c mode j es) i (filterSampleOf (lent .bundle) (lent .curves) (summerSlotOf t) t c mode i (askedOf e .«input_sum») (askedOf e .«source_energy»)))
+    (rowOn (λ j. rowOf bundle curves t c mode j es) i (filterSampleOf bundle curves (summerSlotOf t) t c mode i (askedOf e .«input_sum») (askedOf e .«source_energy»)))
     (noSamples Done i)
 
 -- The state that an event which is no sample leads to.
@@ -72,6 +71,23 @@ nextOf s (Routing value) = writeSignalRoutingOf s value
 nextOf s (Mode value) = writeModeAndVolumeOf s value
 nextOf s (Sample sum energy) = s
 nextOf s Reset = startingState
+
+-- Of the floats, a write of the volume moves charges, and a reset all.
+abbrev pub chargesOf : Event → Bool
+chargesOf (CutoffLow value) = false
+chargesOf (CutoffHigh value) = false
+chargesOf (Routing value) = false
+chargesOf (Mode value) = true
+chargesOf (Sample sum energy) = false
+chargesOf Reset = false
+
+abbrev pub resetsOf : Event → Bool
+resetsOf (CutoffLow value) = false
+resetsOf (CutoffHigh value) = false
+resetsOf (Routing value) = false
+resetsOf (Mode value) = false
+resetsOf (Sample sum energy) = false
+resetsOf Reset = true
 
 -- The other events that come first, up to one that is refused: how many, and the state after them.
 pub record Moves : Type 0 where
@@ -88,7 +104,7 @@ oneMove m = record { answer = m .answer; events = suc (m .events); state = m .st
 unfoldable pub movesOf : List ℕ → State → List Event → Moves
 movesOf bundle s [] = noMoves Done s
 movesOf bundle s (e ∷ es) =
-    let judged = judgeControlsOf bundle (nextOf s e) in
+    let judged = judgeChangeOf bundle (nextOf s e) in
     cond (askedOf e .sample)
     (noMoves Done s)
     (cond (isDoneOf judged) (oneMove (movesOf bundle (nextOf s e) es)) (noMoves judged s))

@@ -9,6 +9,7 @@ use Rattle.answers.specs.declared.Answer.{Answer}
 use Rattle.answers.specs.declared.Answer.the-variants.{Done, Argument, Script, OutputLength}
 use Rattle.answers.specs.Answers.{firstOf, unlessOf, isDoneOf}
 use Rattle.wire.specs.Wire.{rowBytes}
+use Rattle.transients.specs.Block.{judgeDecaysOf}
 use Rattle.control.specs.declared.State.{State}
 use Rattle.control.specs.declared.DecodedState.{DecodedState}
 use Rattle.control.specs.declared.DecodedState.the-variants.{Valid, Invalid}
@@ -71,9 +72,9 @@ judgeBlockOf block = unlessOf (isValid (decodeOf block)) Argument
 unfoldable pub judgeScriptOf : List ℕ → ℕ → Answer
 judgeScriptOf script room = firstOf (unlessOf (wellFormed script) Script) (unlessOf (leb (16 * samplesOf (eventsOf script)) room) OutputLength)
 
--- 1, 2, 4, 10, 7, 8
+-- 1, 2, 4, 10, 12, 7, 8
 unfoldable pub judgeRunOf : Lent → List ℕ → List ℕ → ℕ → Answer
-judgeRunOf lent block script room = firstOf (judgeLentOf lent) (firstOf (judgeBlockOf block) (judgeScriptOf script room))
+judgeRunOf lent block script room = firstOf (judgeLentOf lent) (firstOf (judgeBlockOf block) (firstOf (judgeDecaysOf (lent .decays)) (judgeScriptOf script room)))
 
 -- What a run answers, and the bytes that it leaves in the state block and in the output.
 pub record Run : Type 0 where

@@ -4,18 +4,19 @@ ghost use mathlib.Core.Bool.{true};
 ghost use lib.ListN.{length};
 ghost use Rattle.answers.specs.declared.Answer.the-variants.{Done};
 ghost use Rattle.wire.specs.Wire.{putAt};
-ghost use Rattle.control.specs.Registers.{effectiveCutoffOf};
+ghost use Rattle.control.specs.Registers.{ofRegisters, effectiveCutoffOf};
 ghost use Rattle.control.specs.Block.{validOf};
 ghost use Rattle.refresh.specs.Refresh.{refreshCoreOf};
 ghost use Rattle.sample.specs.Sample.{outputsFinite};
 ghost use Rattle.script.specs.Script.{eventsOf};
-ghost use Rattle.filter.specs.Lent.{lentOf, judgeLentOf};
+ghost use Rattle.filter.specs.Lent.{lentAll};
 ghost use Rattle.filter.specs.Core.{freshTopologyOf};
 ghost use Rattle.run.specs.Run as R;
 ghost use Rattle.run.specs.Rows as W;
 ghost use Rattle.run.specs.Parts as P;
 use answers::Answer;
 use bundle::Read;
+use control::FilterRegisters;
 use control::State;
 use integrator::IntegratorState;
 use mixing::MixingTopology;
@@ -160,20 +161,54 @@ fn resting_at(bundle: &[u8], old: Resting, state: State) -> Resting
 
 // ---- other events
 
-// The state that an event which is no sample leads to.
-fn next_state(state: State, event: Event) -> State
-    ensures { λ r. ⌜ r ≡ W.nextOf state event ⌝ }
+// The registers that an event which is no sample leads to.
+fn next_registers(registers: FilterRegisters, event: Event) -> FilterRegisters
+    ensures { λ r. ⌜ r ≡ W.nextOf (ofRegisters registers) event .registers ⌝ }
 {
     match event {
-        Event::CutoffLow(value) => state.write_cutoff_low(value),
-        Event::CutoffHigh(value) => state.write_cutoff_high(value),
-        Event::Routing(value) => state.write_signal_routing(value),
-        Event::Mode(value) => state.write_mode_and_volume(value),
+        Event::CutoffLow(value) => registers.write_cutoff_low(value),
+        Event::CutoffHigh(value) => registers.write_cutoff_high(value),
+        Event::Routing(value) => registers.write_signal_routing(value),
+        Event::Mode(value) => registers.write_mode_and_volume(value),
         Event::Sample {
             input_sum: _,
             source_energy: _,
-        } => state,
-        Event::Reset => state.reset(),
+        } => registers,
+        Event::Reset => FilterRegisters::new(),
+    }
+}
+
+// Whether it charges the output node, as a write of the volume does.
+fn charges(event: Event) -> bool
+    ensures { λ r. ⌜ r ≡ W.chargesOf event ⌝ }
+{
+    match event {
+        Event::CutoffLow(_) => false,
+        Event::CutoffHigh(_) => false,
+        Event::Routing(_) => false,
+        Event::Mode(_) => true,
+        Event::Sample {
+            input_sum: _,
+            source_energy: _,
+        } => false,
+        Event::Reset => false,
+    }
+}
+
+// Whether it is a reset, after which the floats are the starting value's.
+fn resets(event: Event) -> bool
+    ensures { λ r. ⌜ r ≡ W.resetsOf event ⌝ }
+{
+    match event {
+        Event::CutoffLow(_) => false,
+        Event::CutoffHigh(_) => false,
+        Event::Routing(_) => false,
+        Event::Mode(_) => false,
+        Event::Sample {
+            input_sum: _,
+            source_energy: _,
+        } => false,
+        Event::Reset => true,
     }
 }
 
@@ -210,8 +245,8 @@ fn play_samples(
     requires { ⌜ P.Ahead (now script) count start ⌝ }
     requires { ⌜ P.Room (now script) count start (now output) before ⌝ }
     requires { ⌜ P.Given (now bundle) state gain «summer_rest» ⌝ }
-    ensures { λ r. ⌜ r ≡ W.rowEnd start before (P.samplesFrom (lentOf (now (bundle .entry)) (now (curves .entry))) state (now (script .entry)) count start) ⌝ }
-    ensures { λ _. ⌜ now (output .exit) ≡ P.samplesPut (now (output .entry)) before (P.samplesFrom (lentOf (now (bundle .entry)) (now (curves .entry))) state (now (script .entry)) count start) ⌝ }
+    ensures { λ r. ⌜ r ≡ W.rowEnd start before (P.samplesFrom (now (bundle .entry)) (now (curves .entry)) state (now (script .entry)) count start) ⌝ }
+    ensures { λ _. ⌜ now (output .exit) ≡ P.samplesPut (now (output .entry)) before (P.samplesFrom (now (bundle .entry)) (now (curves .entry)) state (now (script .entry)) count start) ⌝ }
 {
     let input_drives = constants::input_drives();
     let feedback_drives = constants::feedback_drives();
@@ -323,14 +358,11 @@ fn play_changes(
                 gain,
             };
         }
-        let next = next_state(state, event);
-        let judged = refresh::judge_controls(bundle, next);
+        let before = state.registers;
+        let registers = next_registers(before, event);
+        let judged = refresh::judge_registers(bundle, registers);
         let answer = judged.answer;
-        if answers::is_done(answer) {
-            state = next;
-            gain = judged.gain;
-            i += 1;
-        } else {
+        if !answers::is_done(answer) {
             return Moved {
                 answer,
                 events: i,
@@ -338,6 +370,29 @@ fn play_changes(
                 gain,
             };
         }
+        if charges(event) {
+            let held = state.transients;
+            let transients = held.charge(registers.volume);
+            if !transients.finite_charges() {
+                return Moved {
+                    answer: Answer::Domain,
+                    events: i,
+                    state,
+                    gain,
+                };
+            }
+            state.transients = transients;
+        }
+        if resets(event) {
+            let fresh = State::new();
+            let transients = fresh.transients;
+            let integrator = fresh.integrator;
+            state.transients = transients;
+            state.integrator = integrator;
+        }
+        state.registers = registers;
+        gain = judged.gain;
+        i += 1;
     }
     Moved {
         answer: Answer::Done,
@@ -353,6 +408,7 @@ fn play_changes(
 fn play(
     bundle: &[u8],
     curves: &[u8],
+    decays: &[u8],
     first: State,
     given: f32,
     script: &[u8],
@@ -361,10 +417,10 @@ fn play(
 ) -> Played
     requires { ⌜ P.Ahead (now script) count 0 ⌝ }
     requires { ⌜ P.Room (now script) count 0 (now output) 0 ⌝ }
-    requires { ⌜ P.Start (lentOf (now bundle) (now curves)) first ⌝ }
+    requires { ⌜ P.Start (now bundle) first ⌝ }
     requires { ⌜ P.From (now bundle) first given ⌝ }
-    ensures { λ r. ⌜ r ≡ W.playEnd 0 0 (P.playFrom (lentOf (now (bundle .entry)) (now (curves .entry))) first (now (script .entry)) count) ⌝ }
-    ensures { λ _. ⌜ now (output .exit) ≡ P.playPut (now (output .entry)) (P.playFrom (lentOf (now (bundle .entry)) (now (curves .entry))) first (now (script .entry)) count) ⌝ }
+    ensures { λ r. ⌜ r ≡ W.playEnd 0 0 (P.playFrom (lentAll (now (bundle .entry)) (now (curves .entry)) (now (decays .entry))) first (now (script .entry)) count) ⌝ }
+    ensures { λ _. ⌜ now (output .exit) ≡ P.playPut (now (output .entry)) (P.playFrom (lentAll (now (bundle .entry)) (now (curves .entry)) (now (decays .entry))) first (now (script .entry)) count) ⌝ }
 {
     let mut resting = resting_of(bundle, filter::fresh_topology(first));
     let mut state = first;
@@ -436,16 +492,32 @@ fn judge_script(script: &[u8], room: usize) -> Answer
 }
 
 // The controls of a valid state, then the events.
-fn play_from(bundle: &[u8], curves: &[u8], from: State, script: &[u8], output: &mut [u8]) -> Played
-    requires { ⌜ (judgeLentOf (lentOf (now bundle) (now curves)) ≡ Done) × (validOf from ≡ true) × (R.judgeScriptOf (now script) (length (now output)) ≡ Done) ⌝ }
-    ensures { λ r. ⌜ r ≡ W.playEnd 0 0 (R.playedOf (lentOf (now (bundle .entry)) (now (curves .entry))) from (eventsOf (now (script .entry)))) ⌝ }
-    ensures { λ _. ⌜ now (output .exit) ≡ P.playPut (now (output .entry)) (R.playedOf (lentOf (now (bundle .entry)) (now (curves .entry))) from (eventsOf (now (script .entry)))) ⌝ }
+fn play_from(
+    bundle: &[u8],
+    curves: &[u8],
+    decays: &[u8],
+    from: State,
+    script: &[u8],
+    output: &mut [u8],
+) -> Played
+    requires { ⌜ (validOf from ≡ true) × (R.judgeScriptOf (now script) (length (now output)) ≡ Done) ⌝ }
+    ensures { λ r. ⌜ r ≡ W.playEnd 0 0 (R.playedOf (lentAll (now (bundle .entry)) (now (curves .entry)) (now (decays .entry))) from (eventsOf (now (script .entry)))) ⌝ }
+    ensures { λ _. ⌜ now (output .exit) ≡ P.playPut (now (output .entry)) (R.playedOf (lentAll (now (bundle .entry)) (now (curves .entry)) (now (decays .entry))) from (eventsOf (now (script .entry)))) ⌝ }
 {
     let judged = refresh::judge_controls(bundle, from);
     let answer = judged.answer;
     if answers::is_done(answer) {
         let count = wire::u32_at(script, 0) as usize;
-        return play(bundle, curves, from, judged.gain, script, count, output);
+        return play(
+            bundle,
+            curves,
+            decays,
+            from,
+            judged.gain,
+            script,
+            count,
+            output,
+        );
     }
     Played {
         answer,
@@ -466,27 +538,32 @@ fn turned_back(answer: Answer) -> Ended
     }
 }
 
-// Runs a script from the state in its block: the samples go into the output, the state after them into the block. It stops at the first refusal: 1, 2, 4, 10, 7, 8
-// leave everything, then come 3 and 6 of the controls, then 5, 3 and 6 event by event, with what was done before them written.
+// Runs a script from the state in its block: the samples go into the output, the state after them into the block. It stops at the first refusal: 1, 2, 4, 10, 12, 7,
+// 8 leave everything, then come 3 and 6 of the controls, then 5, 3 and 6 event by event, with what was done before them written.
 pub fn run(
     bundle: &[u8],
     curves: &[u8],
     state: &mut [u8],
+    decays: &[u8],
     script: &[u8],
     output: &mut [u8],
 ) -> Ended
-    ensures { λ r. ⌜ r ≡ W.endedOf (R.runOf (lentOf (now (bundle .entry)) (now (curves .entry))) (now (state .entry)) (now (script .entry)) (now (output .entry))) ⌝ }
-    ensures { λ _. ⌜ now (state .exit) ≡ R.runOf (lentOf (now (bundle .entry)) (now (curves .entry))) (now (state .entry)) (now (script .entry)) (now (output .entry)) .state ⌝ }
-    ensures { λ _. ⌜ now (output .exit) ≡ R.runOf (lentOf (now (bundle .entry)) (now (curves .entry))) (now (state .entry)) (now (script .entry)) (now (output .entry)) .output ⌝ }
+    ensures { λ r. ⌜ r ≡ W.endedOf (R.runOf (lentAll (now (bundle .entry)) (now (curves .entry)) (now (decays .entry))) (now (state .entry)) (now (script .entry)) (now (output .entry))) ⌝ }
+    ensures { λ _. ⌜ now (state .exit) ≡ R.runOf (lentAll (now (bundle .entry)) (now (curves .entry)) (now (decays .entry))) (now (state .entry)) (now (script .entry)) (now (output .entry)) .state ⌝ }
+    ensures { λ _. ⌜ now (output .exit) ≡ R.runOf (lentAll (now (bundle .entry)) (now (curves .entry)) (now (decays .entry))) (now (state .entry)) (now (script .entry)) (now (output .entry)) .output ⌝ }
 {
     let decoded = State::decode(state);
     let lent = filter::judge_lent(bundle, curves);
     let control::DecodedState::Valid(from) = decoded else {
         return turned_back(answers::first(lent, Answer::Argument));
     };
-    let judged = answers::first(lent, judge_script(script, output.len()));
+    let later = answers::first(
+        transients::judge_decays(decays),
+        judge_script(script, output.len()),
+    );
+    let judged = answers::first(lent, later);
     if answers::is_done(judged) {
-        let p = play_from(bundle, curves, from, script, output);
+        let p = play_from(bundle, curves, decays, from, script, output);
         let answer = p.answer;
         let after = p.state;
         after.encode(state);

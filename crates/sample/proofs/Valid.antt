@@ -19,7 +19,8 @@ use Rattle.integrator.specs.declared.Substeps.{Substeps}
 use Rattle.integrator.specs.declared.Substeps.the-variants.{Settled, NotFinite}
 use Rattle.integrator.specs.Integrator.{advanceOf, inDomain, substepOf, thenOf, fourSubstepsOf}
 use Rattle.mixing.specs.declared.MixingTopology.{MixingTopology}
-use Rattle.control.specs.Block.{finiteF32Of, finiteFloatsOf}
+use Rattle.floats.specs.Floats.{finiteF32Of}
+use Rattle.control.specs.Block.{finiteFloatsOf}
 use Rattle.controls.specs.declared.FilterControls.{FilterControls}
 use Rattle.controls.specs.declared.ControlCache.{ControlCache}
 use Rattle.sample.specs.declared.Outputs.{Outputs}

@@ -5,30 +5,31 @@ use mathlib.Core.Bool.{Bool, true, false, cond, _&&_, true≢false}
 use mathlib.Core.List.{List, [], _∷_}
 use lib.Dec.{T, eqb, leb}
 use lib.ListN.{length, replicate}
-use lib.Ieee.{Float, binary32, fits}
+use lib.Ieee.{Float, binary32, ofBits, fits, le}
 use lib.Ieee.Scale.{finite}
 use borrow.Author.Tests.{eq-eqb}
 use Rattle.answers.specs.declared.Answer.{Answer}
 use Rattle.answers.specs.declared.Answer.the-variants.{Done, BundleLength, Header, CurvesLength, InputNotFinite, Script, Argument}
 use Rattle.answers.specs.Answers.{numberOf, isDoneOf, firstOf, unlessOf}
-use Rattle.answers.proofs.Laws.{done-is}
+use Rattle.answers.proofs.Laws.{done-is, first-assoc, first-of-done}
 use Rattle.wire.specs.Wire.{numberAt}
 use Rattle.bundle.specs.Layout.{bundleLength, headerLength}
 use Rattle.bundle.specs.Opening.{firstDifference, checkOf}
 use Rattle.curves.specs.declared.CurvePoint.{CurvePoint}
 use Rattle.curves.specs.Sampling.{noPoint}
 use Rattle.curves.specs.Building.{curvesLength}
+use Rattle.transients.specs.Block.{factorAt, judgeDecaysOf}
 use Rattle.control.specs.declared.State.{State}
 use Rattle.control.specs.declared.DecodedState.{DecodedState}
 use Rattle.control.specs.declared.DecodedState.the-variants.{Valid, Invalid}
-use Rattle.control.specs.Block.{validOf, fieldsOf, decodeOf}
+use Rattle.control.specs.Block.{fieldsOf, decodeOf}
 use Rattle.control.proofs.RoundTrip.{decoded}
 use Rattle.controls.specs.Judging.{judgeControlsOf}
 use Rattle.script.specs.declared.Event.{Event}
 use Rattle.script.specs.declared.Event.the-variants.{Sample}
 use Rattle.script.specs.Script.{eventsOf, samplesOf, headerOk, wellFormed}
-use Rattle.filter.specs.Lent.{Lent, judgeLentOf}
-use Rattle.filter.specs.Plain.{plainStart, plainSample, plainStep}
+use Rattle.filter.specs.Lent.{Lent, lentAll, judgeTablesOf, judgeLentOf}
+use Rattle.filter.specs.Plain.{plainSample, plainStep}
 use Rattle.run.specs.Run.{Run, playOf, playedOf, isValid, judgeScriptOf, judgeRunOf, runOf}
 use Rattle.direct.proofs.CurveNumber.{then-argument}
 use Rattle.points.specs.Points.{statePointOf, pointedOf, sampleRefusalOf, samplePointCallOf, sampleScriptOf}
@@ -37,18 +38,9 @@ use Rattle.sid_filter.specs.declared.RunAnswer.{RunAnswer}
 use Rattle.sid_filter.specs.declared.PointAnswer.{PointAnswer}
 use Rattle.sid_filter.specs.Calls.{runAnswerOf, ranAnswerOf, uncountedOf, pointAnswerOf}
 
--- ---- one answer after another
-
-first-first : (a b c : Answer) → firstOf (firstOf a b) c ≡ firstOf a (firstOf b c)
-first-first a b c = go (isDoneOf a) refl
-  where
-    go : (d : Bool) → isDoneOf a ≡ d → firstOf (cond d b a) c ≡ cond d (firstOf b c) a
-    go true h = refl
-    go false h = rw h refl
-
 -- What is lent is not refused with 7.
 lent-other : (l : Lent) → eqb (numberOf (judgeLentOf l)) 7 ≡ false
-unfolding judgeLentOf checkOf
+unfolding judgeTablesOf checkOf
 lent-other l =
     go (eqb (length (l .bundle)) bundleLength) (leb headerLength (firstDifference (l .bundle))) (eqb (length (l .curves)) curvesLength) (firstDifference (l .bundle))
   where
@@ -79,51 +71,52 @@ played-one l s e = go (isDoneOf (judgeControlsOf (l .bundle) s)) (isDoneOf (plai
     go true false h i = rw (h, i) refl
     go false d h i = rw h refl
 
--- ---- both runs
+-- ---- both runs, which are lent six zeros for decays
+
+abbrev pub zeroDecays : Lent → Lent
+zeroDecays l = lentAll (l .bundle) (l .curves) (replicate 24 0)
+
+zeros-judged : judgeDecaysOf (replicate 24 0) ≡ Done
+unfolding judgeDecaysOf factorAt numberAt ofBits le
+zeros-judged = refl
+
+-- no sample reads them
+sample-alike : (l : Lent) (s : State) (sum energy : Float) → plainSample (zeroDecays l) s sum energy ≡ plainSample l s sum energy
+unfolding plainSample
+sample-alike l s sum energy = refl
 
 module _ (l : Lent) (block : List ℕ) (sum energy : Float) where
   abbrev output : List ℕ
   output = replicate 16 0
 
   -- a block of another length
-  pub other-length : eqb (length block) 24 ≡ false → firstOf (judgeLentOf l) Argument ≡ samplePointCallOf l block sum energy .answer
+  pub other-length : eqb (length block) 68 ≡ false → firstOf (judgeLentOf l) Argument ≡ samplePointCallOf l block sum energy .answer
   unfolding samplePointCallOf decodeOf
   other-length h = rw h refl
 
   abbrev pub oneRun : Answer
-  oneRun = runOf l block (sampleScriptOf sum energy) output .answer
+  oneRun = runOf (zeroDecays l) block (sampleScriptOf sum energy) output .answer
 
   abbrev pub noRun : Answer
-  noRun = runOf l block [] output .answer
+  noRun = runOf (zeroDecays l) block [] output .answer
 
   -- the script of one sample is readable, and the output has room for it
   one-judged : T (fits binary32 sum) → T (fits binary32 energy) → judgeScriptOf (sampleScriptOf sum energy) (length output) ≡ Done
   unfolding judgeScriptOf samplesOf
   one-judged f g = rw (script-formed sum energy, script-events sum energy f g) refl
 
-  -- where the start is the controls alone
-  started : (s : State) → (validOf s ≡ true) → judgeLentOf l ≡ Done → plainStart l s ≡ judgeControlsOf (l .bundle) s
-  unfolding plainStart
-  started s valid lent = rw (lent, valid) refl
-
   pub one-run : T (fits binary32 sum) → T (fits binary32 energy) → (finite sum && finite energy) ≡ true → oneRun ≡ samplePointCallOf l block sum energy .answer
   unfolding samplePointCallOf sampleRefusalOf judgeRunOf
   one-run f g known =
-      run-answered l block (sampleScriptOf sum energy) output
-      ∙ rw (one-judged f g, script-events sum energy f g) (go (decodeOf block) refl)
+      run-answered (zeroDecays l) block (sampleScriptOf sum energy) output
+      ∙ rw (zeros-judged, one-judged f g, script-events sum energy f g) (go (decodeOf block) refl)
     where
       go : (d : DecodedState) → decodeOf block ≡ d
-          → firstOf (firstOf (judgeLentOf l) (firstOf (unlessOf (isValid d) Argument) Done)) (playedOf l (fieldsOf block) (Sample sum energy ∷ []) .answer) ≡ pointedOf l d sum energy .answer
-      go Invalid h = first-first (judgeLentOf l) Argument _
+          → firstOf (firstOf (judgeLentOf l) (firstOf (unlessOf (isValid d) Argument) Done)) (playedOf (zeroDecays l) (fieldsOf block) (Sample sum energy ∷ []) .answer)
+          ≡ pointedOf l d sum energy .answer
+      go Invalid h = first-assoc (judgeLentOf l) Argument _
       go (Valid s) h =
-          let dec = decoded block s h in
-          rw (dec .fields, played-one l s (Sample sum energy), known) (settle (isDoneOf (judgeLentOf l)) refl (started s (dec .valid)))
-        where
-          settle : (d : Bool) → isDoneOf (judgeLentOf l) ≡ d → (judgeLentOf l ≡ Done → plainStart l s ≡ judgeControlsOf (l .bundle) s)
-              → firstOf (firstOf (judgeLentOf l) Done) (firstOf (judgeControlsOf (l .bundle) s) (plainSample l s sum energy .answer))
-              ≡ firstOf (judgeLentOf l) (firstOf (plainStart l s) (plainSample l s sum energy .answer))
-          settle true h start = let lent = done-is (judgeLentOf l) h in rw (start lent, lent) refl
-          settle false h start = rw h (rw h refl)
+          rw (decoded block s h .fields, played-one (zeroDecays l) s (Sample sum energy), sample-alike l s sum energy, known, first-of-done (judgeLentOf l)) refl
 
   -- no script is not readable
   none-judged : judgeScriptOf [] (length output) ≡ Script
@@ -132,7 +125,9 @@ module _ (l : Lent) (block : List ℕ) (sum energy : Float) where
 
   pub no-run : (finite sum && finite energy) ≡ false → cond (eqb (numberOf noRun) 7) InputNotFinite noRun ≡ samplePointCallOf l block sum energy .answer
   unfolding samplePointCallOf sampleRefusalOf judgeRunOf
-  no-run unknown = rw (run-answered l block [] output, none-judged) (go (decodeOf block) (isDoneOf (judgeLentOf l)) refl (playedOf l (fieldsOf block) (eventsOf []) .answer))
+  no-run unknown =
+      rw (run-answered (zeroDecays l) block [] output, zeros-judged, none-judged)
+      (go (decodeOf block) (isDoneOf (judgeLentOf l)) refl (playedOf (zeroDecays l) (fieldsOf block) (eventsOf []) .answer))
     where
       go : (d : DecodedState) (b : Bool) → isDoneOf (judgeLentOf l) ≡ b → (played : Answer)
           → let judged = firstOf (firstOf (judgeLentOf l) (firstOf (unlessOf (isValid d) Argument) Script)) played in
@@ -145,10 +140,10 @@ module _ (l : Lent) (block : List ℕ) (sum energy : Float) where
   -- ---- as `sample_answer` makes its answer of them
 
   pub told-one : T (fits binary32 sum) → T (fits binary32 energy) → (finite sum && finite energy) ≡ true → {script : List ℕ} → script ≡ sampleScriptOf sum energy
-      → {told : RunAnswer} → told ≡ ranAnswerOf (runOf l block script output) → uncountedOf told ≡ runAnswerOf (samplePointCallOf l block sum energy .answer) 0 0
+      → {told : RunAnswer} → told ≡ ranAnswerOf (runOf (zeroDecays l) block script output) → uncountedOf told ≡ runAnswerOf (samplePointCallOf l block sum energy .answer) 0 0
   told-one f g known script told = rw (told, script) (ap (λ (a : Answer). runAnswerOf a 0 0) (one-run f g known))
 
-  module _ (unknown : (finite sum && finite energy) ≡ false) {told : RunAnswer} (is : told ≡ ranAnswerOf (runOf l block [] output)) where
+  module _ (unknown : (finite sum && finite energy) ≡ false) {told : RunAnswer} (is : told ≡ ranAnswerOf (runOf (zeroDecays l) block [] output)) where
     pub told-five : told .number ≡ 7 → runAnswerOf InputNotFinite 0 0 ≡ runAnswerOf (samplePointCallOf l block sum energy .answer) 0 0
     told-five seven =
         let n : numberOf noRun ≡ 7 = sym (ap (λ (t : RunAnswer). t .number) is) ∙ seven in

@@ -1,9 +1,12 @@
 // The C interface of include/sid_filter.h: the calls on lent bytes, with the numbers of docs/FORMATS.md for their answers.
 ghost use mathlib.Core.Path.{_≡_};
 ghost use lib.ListN.{length, replicate};
+ghost use Rattle.answers.specs.declared.Answer.the-variants.{Argument};
+ghost use Rattle.answers.specs.Answers.{unlessOf};
 ghost use Rattle.bundle.specs.Opening.{openOf};
 ghost use Rattle.curves.specs.Building.{judgeBuildOf, buildOf};
-ghost use Rattle.filter.specs.Lent.{lentOf};
+ghost use Rattle.control.specs.Widening.{widensOf, widenedOf};
+ghost use Rattle.filter.specs.Lent.{lentOf, lentAll};
 ghost use Rattle.run.specs.Run.{runOf};
 ghost use Rattle.signals.specs.Collecting.{collectAnswerOf, collectedOf};
 ghost use Rattle.direct.specs.Calls.{sampleCurveCallOf, volumeTransferCallOf};
@@ -72,21 +75,32 @@ pub extern "C" fn sid_filter_build_curves(bundle: &[u8], curves: &mut [u8]) -> R
     run_answer(curves::build(bundle, curves), 0, 0)
 }
 
-// Runs a script from the state in its block: the samples go into the output, the state after them into the block. Refuses 1, 2, 4, 10, 7, 8 and then
+// Turns a block of 24 bytes, which has no transients, into one of 68: nothing charged, and the conductance of its volume. Refuses 10, and then leaves the lent bytes.
+#[no_mangle]
+pub extern "C" fn sid_filter_widen_state(block: &[u8], wide: &mut [u8]) -> RunAnswer
+    ensures { λ r. ⌜ r ≡ runAnswerOf (unlessOf (widensOf (now (block .entry)) (now (wide .entry))) Argument) 0 0 ⌝ }
+    ensures { λ _. ⌜ now (wide .exit) ≡ widenedOf (now (block .entry)) (now (wide .entry)) ⌝ }
+{
+    let widened = State::widen(block, wide);
+    run_answer(answers::unless(widened, Answer::Argument), 0, 0)
+}
+
+// Runs a script from the state in its block: the samples go into the output, the state after them into the block. Refuses 1, 2, 4, 10, 12, 7, 8 and then
 // leaves everything; 3 or 6 of the controls; and event by event 5, 3, 6, with the samples and the state before the stop written.
 #[no_mangle]
 pub extern "C" fn sid_filter_run(
     bundle: &[u8],
     curves: &[u8],
     state: &mut [u8],
+    decays: &[u8],
     script: &[u8],
     output: &mut [u8],
 ) -> RunAnswer
-    ensures { λ r. ⌜ r ≡ ranAnswerOf (runOf (lentOf (now (bundle .entry)) (now (curves .entry))) (now (state .entry)) (now (script .entry)) (now (output .entry))) ⌝ }
-    ensures { λ _. ⌜ now (state .exit) ≡ runOf (lentOf (now (bundle .entry)) (now (curves .entry))) (now (state .entry)) (now (script .entry)) (now (output .entry)) .state ⌝ }
-    ensures { λ _. ⌜ now (output .exit) ≡ runOf (lentOf (now (bundle .entry)) (now (curves .entry))) (now (state .entry)) (now (script .entry)) (now (output .entry)) .output ⌝ }
+    ensures { λ r. ⌜ r ≡ ranAnswerOf (runOf (lentAll (now (bundle .entry)) (now (curves .entry)) (now (decays .entry))) (now (state .entry)) (now (script .entry)) (now (output .entry))) ⌝ }
+    ensures { λ _. ⌜ now (state .exit) ≡ runOf (lentAll (now (bundle .entry)) (now (curves .entry)) (now (decays .entry))) (now (state .entry)) (now (script .entry)) (now (output .entry)) .state ⌝ }
+    ensures { λ _. ⌜ now (output .exit) ≡ runOf (lentAll (now (bundle .entry)) (now (curves .entry)) (now (decays .entry))) (now (state .entry)) (now (script .entry)) (now (output .entry)) .output ⌝ }
 {
-    let ended = run::run(bundle, curves, state, script, output);
+    let ended = run::run(bundle, curves, state, decays, script, output);
     let answer = ended.answer;
     run_answer(answer, ended.events as u32, ended.samples as u32)
 }
@@ -151,15 +165,16 @@ pub extern "C" fn sid_filter_volume(curves: &[u8], volume: u8, value: f32) -> Po
     point_answer(direct::volume_transfer(curves, volume, value))
 }
 
-// A run on a copy of a block, with room for one sample.
+// A run on a copy of a block, with room for one sample. No sample reads the decays: zeros do.
 fn tried(bundle: &[u8], curves: &[u8], block: &[u8], script: &[u8]) -> RunAnswer
-    requires { ⌜ length (now block) ≡ 24 ⌝ }
-    ensures { λ r. ⌜ r ≡ ranAnswerOf (runOf (lentOf (now (bundle .entry)) (now (curves .entry))) (now (block .entry)) (now (script .entry)) (replicate 16 0)) ⌝ }
+    requires { ⌜ length (now block) ≡ 68 ⌝ }
+    ensures { λ r. ⌜ r ≡ ranAnswerOf (runOf (lentAll (now (bundle .entry)) (now (curves .entry)) (replicate 24 0)) (now (block .entry)) (now (script .entry)) (replicate 16 0)) ⌝ }
 {
-    let mut kept = [0; 24];
+    let mut kept = [0; 68];
+    let decays = [0; 24];
     let mut output = [0; 16];
     wire::put(&mut kept, 0, block);
-    sid_filter_run(bundle, curves, &mut kept, script, &mut output)
+    sid_filter_run(bundle, curves, &mut kept, &decays, script, &mut output)
 }
 
 // An answer without the counts of a run.

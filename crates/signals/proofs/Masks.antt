@@ -9,7 +9,7 @@ use lib.Ieee.{Float}
 use Rattle.mixing.specs.declared.MixingTopology.{MixingTopology}
 use Rattle.signals.specs.declared.RoutedSignals.{RoutedSignals}
 use Rattle.signals.specs.declared.Voices.{Voices}
-use Rattle.signals.specs.declared.SawBlends.{SawBlends}
+use Rattle.transients.specs.declared.SawBlends.{SawBlends}
 use Rattle.signals.specs.Signals.{maskedOf, addFilterVoiceOf, addBypassVoiceOf, addFilterVoicesOf, addVoicesOf}
 
 other-mask : (mask k : ℕ) → k < mask → eqb mask k ≡ false

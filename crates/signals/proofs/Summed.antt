@@ -20,7 +20,7 @@ use Rattle.voice.specs.Levels.{filterVoiceSignalOf, mixerVoiceSignalOf, sourceR
 use Rattle.signals.specs.declared.RoutedSignals.{RoutedSignals}
 use Rattle.signals.specs.declared.Contribution.{Contribution}
 use Rattle.signals.specs.declared.Voices.{Voices}
-use Rattle.signals.specs.declared.SawBlends.{SawBlends}
+use Rattle.transients.specs.declared.SawBlends.{SawBlends}
 use Rattle.signals.specs.declared.ExternalInputState.{ExternalInputState}
 use Rattle.signals.specs.Signals as S
 use Rattle.signals.specs.Lent.{voicesOf, externalOf, blendsOf}

@@ -17,7 +17,7 @@ use Rattle.voice.specs.declared.VoiceSignal.{VoiceSignal}
 use Rattle.voice.specs.Levels.{sourceRestingOf}
 use Rattle.signals.specs.declared.RoutedSignals.{RoutedSignals}
 use Rattle.signals.specs.declared.Voices.{Voices}
-use Rattle.signals.specs.declared.SawBlends.{SawBlends}
+use Rattle.transients.specs.declared.SawBlends.{SawBlends}
 use Rattle.signals.specs.declared.ExternalInputState.{ExternalInputState}
 use Rattle.signals.specs.Signals.{silentOf, withFilter, withBypass, filterVoiceContributionOf, addFilterVoiceOf, addBypassVoiceOf, maskedOf, addFilterVoicesOf, addBypassVoicesOf, addVoicesOf, addExternalOf, collectOf}
 use Rattle.signals.specs.Lent.{voicesOf, externalOf, blendsOf}

@@ -7,7 +7,7 @@ use lib.ListN.{length}
 use Rattle.wire.specs.Wire.{f32At, finiteAt}
 use Rattle.voice.specs.Voice.{voiceAt, validVoiceAt}
 use Rattle.signals.specs.declared.Voices.{Voices}
-use Rattle.signals.specs.declared.SawBlends.{SawBlends}
+use Rattle.transients.specs.declared.SawBlends.{SawBlends}
 use Rattle.signals.specs.declared.ExternalInputState.{ExternalInputState}
 
 -- Voices 1, 2 and 3, one after another.

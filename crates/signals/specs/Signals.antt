@@ -13,7 +13,7 @@ use Rattle.voice.specs.Levels.{filterVoiceSignalOf, mixerVoiceSignalOf}
 use Rattle.signals.specs.declared.RoutedSignals.{RoutedSignals}
 use Rattle.signals.specs.declared.Contribution.{Contribution}
 use Rattle.signals.specs.declared.Voices.{Voices}
-use Rattle.signals.specs.declared.SawBlends.{SawBlends}
+use Rattle.transients.specs.declared.SawBlends.{SawBlends}
 use Rattle.signals.specs.declared.ExternalInputState.{ExternalInputState}
 
 -- ---- the sums

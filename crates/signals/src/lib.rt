@@ -8,6 +8,7 @@ ghost use Rattle.signals.specs.Lent.{voicesOf, validVoicesOf, externalOf
 ghost use Rattle.signals.specs.Collecting as C;
 use answers::Answer;
 use mixing::MixingTopology;
+use transients::SawBlends;
 use voice::VoiceSignal;
 
 // The sums, each from 0.0 on: of what the filter takes the levels, the energy and the envelopes; of what goes beside it the levels and the envelopes, and of
@@ -34,13 +35,6 @@ pub struct Voices {
     pub one: VoiceSignal,
     pub two: VoiceSignal,
     pub three: VoiceSignal,
-}
-
-// How far each voice's saw is bent at the mixer.
-pub struct SawBlends {
-    pub one: f32,
-    pub two: f32,
-    pub three: f32,
 }
 
 // The external input as it came in, and its levels at the filter's summer and at the mixer.

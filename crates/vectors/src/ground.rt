@@ -98,7 +98,8 @@ fn answer_of(number: u32, buffer: u32, place: u32) -> Answer {
         7 => Answer::Script,
         8 => Answer::OutputLength,
         10 => Answer::Argument,
-        _ => Answer::Sources,
+        11 => Answer::Sources,
+        _ => Answer::Decays,
     }
 }
 

@@ -1,5 +1,6 @@
 // Replays the oracle's answers (oracle/README.md) through integrator, response, mixing and control, and prints a line for each file: its name, how many of
 // its records agree, and how many it has.
+mod charges;
 mod circuit;
 mod levels;
 mod registers;
@@ -15,6 +16,8 @@ enum Kind {
     ModeGain,
     Topology,
     Writes,
+    Charges,
+    Widening,
 }
 
 fn agrees(kind: Kind, r: &[u8]) -> bool {
@@ -28,6 +31,8 @@ fn agrees(kind: Kind, r: &[u8]) -> bool {
         Kind::ModeGain => levels::mode_gain(r),
         Kind::Topology => levels::topology(r),
         Kind::Writes => registers::write(r),
+        Kind::Charges => charges::charge(r),
+        Kind::Widening => charges::widening(r),
     }
 }
 
@@ -42,6 +47,8 @@ fn main() {
     replay_file(Kind::ModeGain, b"mode_gain.bin", 5);
     replay_file(Kind::Topology, b"topology.bin", 19);
     replay_file(Kind::Writes, b"writes.bin", 11);
+    replay_file(Kind::Charges, b"charges.bin", 36);
+    replay_file(Kind::Widening, b"widening.bin", 23);
 }
 
 // Prints the line of one file, whose records have a number of words.

@@ -15,6 +15,7 @@ pub(crate) fn write(r: &[u8]) -> bool {
 fn state_at(r: &[u8]) -> State {
     let start = State::new();
     let integrator = start.integrator;
+    let transients = start.transients;
     State {
         registers: FilterRegisters {
             cutoff: wire::u16_at(r, 0),
@@ -27,6 +28,7 @@ fn state_at(r: &[u8]) -> State {
             volume: 0,
         },
         integrator,
+        transients,
     }
 }
 

@@ -9,8 +9,8 @@ use replay::has_size;
 use sample::Sampled;
 
 fn state_at(r: &[u8]) -> DecodedState {
-    if 24 <= r.len() {
-        return State::decode(&r[0..24]);
+    if 68 <= r.len() {
+        return State::decode(&r[0..68]);
     }
     DecodedState::Invalid
 }
@@ -51,20 +51,20 @@ fn has_controls(r: &[u8], refreshed: Refreshed) -> bool {
         o.scaled_filter_common_mode,
     ];
     answers::is_done(answer)
-        & has_size(r, 24, f.effective_cutoff_index)
-        & has_floats(r, 28, &integrator_gain)
-        & has_floats(r, 92, &input_drive)
-        & has_floats(r, 156, &feedback_drive)
-        & has_floats(r, 220, &at_the_cutoff)
-        & has_size(r, 240, f.resonance_index)
-        & has_floats(r, 244, &others)
-        & has_flag(r, 284, o.frozen_dac_bias_mode)
+        & has_size(r, 68, f.effective_cutoff_index)
+        & has_floats(r, 72, &integrator_gain)
+        & has_floats(r, 136, &input_drive)
+        & has_floats(r, 200, &feedback_drive)
+        & has_floats(r, 264, &at_the_cutoff)
+        & has_size(r, 284, f.resonance_index)
+        & has_floats(r, 288, &others)
+        & has_flag(r, 328, o.frozen_dac_bias_mode)
 }
 
 pub(crate) fn sample(r: &[u8], bundle: &[u8], curves: &[u8]) -> bool {
     let decoded = state_at(r);
     match decoded {
-        DecodedState::Valid(state) => keeps_registers(r)
+        DecodedState::Valid(state) => keeps_rest(r)
             & has_sampled(r, sampled(r, bundle, curves, state)),
         DecodedState::Invalid => false,
     }
@@ -85,8 +85,8 @@ fn sampled(r: &[u8], bundle: &[u8], curves: &[u8], s: State) -> Sampled {
         controls,
         registers.mode,
         integrator,
-        wire::f32_at(r, 24),
-        wire::f32_at(r, 28),
+        wire::f32_at(r, 68),
+        wire::f32_at(r, 72),
     )
 }
 
@@ -100,15 +100,16 @@ fn has_sampled(r: &[u8], sampled: Sampled) -> bool {
                 state.low_state,
                 state.filter_source_energy,
             ];
-            has_floats(r, 32, &given) & has_floats(r, 60, &left)
+            has_floats(r, 76, &given) & has_floats(r, 104, &left)
         }
         Sampled::Refused { answer } => false,
     }
 }
 
-// The block after the sample has the registers of the one before.
-fn keeps_registers(r: &[u8]) -> bool {
-    (wire::u32_at(r, 48) == wire::u32_at(r, 0))
-        & (wire::u32_at(r, 52) == wire::u32_at(r, 4))
-        & (wire::u32_at(r, 56) == wire::u32_at(r, 8))
+// The block after the sample has the registers of the one before, and what it was charged with.
+fn keeps_rest(r: &[u8]) -> bool {
+    if r.len() < 160 {
+        return false;
+    }
+    check::same(&r[92..104], &r[0..12]) & check::same(&r[116..160], &r[24..68])
 }

@@ -24,15 +24,15 @@ pub(crate) fn transfer(r: &[u8], bundle: &[u8], curves: &[u8]) -> bool {
 }
 
 pub(crate) fn sample_point(r: &[u8], bundle: &[u8], curves: &[u8]) -> bool {
-    if r.len() < 24 {
+    if r.len() < 68 {
         return false;
     }
-    let sum = wire::f32_at(r, 24);
-    let energy = wire::f32_at(r, 28);
+    let sum = wire::f32_at(r, 68);
+    let energy = wire::f32_at(r, 72);
     has_point(
         r,
-        32,
-        sid_filter::sid_filter_sample_point(bundle, curves, &r[0..24], sum, energy),
+        76,
+        sid_filter::sid_filter_sample_point(bundle, curves, &r[0..68], sum, energy),
     )
 }
 

@@ -5,7 +5,7 @@
 mod show;
 
 use show::{bundle_bytes, grouped, progress, progress_done};
-use sid_filter::{run, run_samples, voice_level, Bundle, Curves, Event, Sample, Script, State, Stop, CLOCK_HZ, VOICE_REST};
+use sid_filter::{run, run_samples, voice_level, Bundle, Curves, Decays, Event, Sample, Script, State, Stop, CLOCK_HZ, VOICE_REST};
 use std::error::Error;
 use std::f32::consts::TAU;
 use std::process::ExitCode;
@@ -29,7 +29,8 @@ fn measure() -> Result<(), Box<dyn Error>> {
     let bundle = Bundle::open(bundle_bytes()?)?;
     let curves = Curves::build(&bundle)?;
     let mut start = State::start();
-    run(&bundle, &curves, &mut start, &registers()?, &mut [])?;
+    let decays = &Decays::EMULATOR;
+    run(&bundle, &curves, &mut start, decays, &registers()?, &mut [])?;
     let mut rows = BLOCKS.map(Row::new);
     let mut output = vec![0; SAMPLES * sid_filter::SAMPLE_BYTES];
     let mut samples = vec![Sample::default(); SAMPLES];
@@ -37,9 +38,10 @@ fn measure() -> Result<(), Box<dyn Error>> {
         progress(&format!("cost: round {round} of {ROUNDS}"));
         for row in &mut rows {
             let mut state = start;
-            row.bytes = row.bytes.min(timed(&row.scripts, |script| run(&bundle, &curves, &mut state, script, &mut output))?);
+            row.bytes = row.bytes.min(timed(&row.scripts, |script| run(&bundle, &curves, &mut state, decays, script, &mut output))?);
             let mut state = start;
-            row.samples = row.samples.min(timed(&row.scripts, |script| run_samples(&bundle, &curves, &mut state, script, &mut samples))?);
+            row.samples =
+                row.samples.min(timed(&row.scripts, |script| run_samples(&bundle, &curves, &mut state, decays, script, &mut samples))?);
         }
     }
     progress_done();

@@ -1,18 +1,21 @@
 //! The null test: bounces the demo song from the top and from bar 40, subtracts, and prints how many bytes differ.
 //!
 //! 1. From the top, twice side by side: in pieces of 65,536 events, and in pieces of unlike lengths with a cut after every register write.
-//!    The state at bar 40, 24 bytes, is kept.
+//!    The state at bar 40, 68 bytes, is kept.
 //! 2. As a composer works: two bars are played from the kept state with voice 1 muted and voice 2 pulled out of the filter. They are played
 //!    again from there in pieces of unlike lengths.
-//! 3. The restart: from the kept state, bar 40 to the end. The song pulls voice 2 out of the filter on the way and puts it back.
-//! 4. That the test can fail: the restart with one bit of the kept state changed, and with nothing kept.
+//! 3. The restart: from the kept state, bar 40 to the end. On the way the song pulls voice 2 out of the filter and puts it back, and plays a
+//!    drum through the volume.
+//! 4. That the test can fail: the restart with one bit of the kept state changed, and with nothing kept. No sample reads a charge, so where
+//!    one is changed the end states tell.
 //!
-//! Bytes are compared, all four outputs of each sample. The exit status is 0 only if none differ in 1, 2 and 3, and some in 4.
+//! Bytes are compared: all four outputs of each sample, and the 68 of the end states. The exit status is 0 only if none differ in 1, 2 and
+//! 3, and some in each case of 4.
 mod show;
 mod song;
 
 use show::{bundle_bytes, grouped, progress, progress_done};
-use sid_filter::{run, Bundle, Curves, Event, Script, State, Stop, CLOCK_HZ, EVENTS_MAX, SAMPLE_BYTES};
+use sid_filter::{run, Bundle, Curves, Decays, Event, Script, State, Stop, CLOCK_HZ, EVENTS_MAX, NARROW_STATE_BYTES, SAMPLE_BYTES};
 use song::{Desk, BAR, BARS, PARTS};
 use std::error::Error;
 use std::process::ExitCode;
@@ -62,7 +65,9 @@ fn null_test() -> Result<bool, Box<dyn Error>> {
     progress_done();
     println!("1. From the top in pieces of {} events, less the same in unlike pieces of 1 to {}", grouped(EVENTS_MAX), grouped(UNLIKE_MAX));
     println!("   {from_top}; end states {}", same(whole == other));
-    println!("   the state at bar {RESTART} is kept, 24 bytes: {}", hexadecimal(&kept));
+    let (first, last) = kept.as_bytes().split_at(NARROW_STATE_BYTES);
+    println!("   the state at bar {RESTART} is kept, 68 bytes: {}", hexadecimal(first));
+    println!("   with what is charged: {}", hexadecimal(last));
 
     // 2. Something else in between, from the kept state too, and again.
     let (mut elsewhere, mut again) = (kept, kept);
@@ -78,10 +83,9 @@ fn null_test() -> Result<bool, Box<dyn Error>> {
     println!("   {another}; end states {}", same(elsewhere == again));
 
     // 3. The restart, and 4. what it would be otherwise.
-    let mut one_bit = *kept.as_bytes();
-    one_bit[16] ^= 1;
     let (restart, end) = player.restart(kept, &kept_bytes)?;
-    let (changed, _) = player.restart(State::from_bytes(one_bit), &kept_bytes)?;
+    let (changed, _) = player.restart(flipped(&kept, 16, 1), &kept_bytes)?;
+    let (unheard, charged) = player.restart(flipped(&kept, 27, 0x80), &kept_bytes)?;
     let (fresh, _) = player.restart(State::start(), &kept_bytes)?;
     println!("3. From the state kept at bar {RESTART} to the end, less the bounce from the top");
     for part in PARTS.iter().filter(|part| part.first > RESTART) {
@@ -90,11 +94,12 @@ fn null_test() -> Result<bool, Box<dyn Error>> {
     println!("   {restart}; end states {}", same(end == whole));
     println!("4. That the test can fail: the same");
     println!("   with one bit of the state changed, the lowest of the low-pass capacitor: {changed}");
+    println!("   with the sign of the volume's fast charge changed: {unheard}; end states {}", same(charged == whole));
     println!("   with nothing kept, the starting value: {fresh}");
 
     let none_differ = [&from_top, &another, &restart].iter().all(|difference| difference.bytes == 0);
     let cancels = none_differ && whole == other && elsewhere == again && whole == end;
-    let can_fail = changed.bytes > 0 && fresh.bytes > 0;
+    let can_fail = changed.bytes > 0 && charged != whole && fresh.bytes > 0;
     let verdict = if cancels && can_fail { "The bounces cancel to the last bit" } else { "NOT AS PROMISED" };
     println!("{verdict} ({:.1} s).", begun.elapsed().as_secs_f64());
     Ok(cancels && can_fail)
@@ -116,7 +121,8 @@ impl Player {
         while let Some(tick) = ticks.next() {
             script.push(tick.event).expect("a piece is cut where it is full");
             if ticks.peek().is_none() || cutter.cuts_after(tick.event, script.len()) {
-                written += run(&self.bundle, &self.curves, state, &script, &mut output[written * SAMPLE_BYTES..])?.samples;
+                written +=
+                    run(&self.bundle, &self.curves, state, &Decays::EMULATOR, &script, &mut output[written * SAMPLE_BYTES..])?.samples;
                 script.clear();
             }
         }
@@ -201,6 +207,13 @@ fn same(equal: bool) -> &'static str {
     }
 }
 
-fn hexadecimal(state: &State) -> String {
-    state.as_bytes().iter().map(|byte| format!("{byte:02x}")).collect()
+fn hexadecimal(bytes: &[u8]) -> String {
+    bytes.iter().map(|byte| format!("{byte:02x}")).collect()
+}
+
+/// A state with some bits of one of its bytes changed.
+fn flipped(state: &State, place: usize, bits: u8) -> State {
+    let mut bytes = *state.as_bytes();
+    bytes[place] ^= bits;
+    State::from_bytes(bytes)
 }

@@ -13,7 +13,7 @@ mod song;
 
 use chart::{between, Axis, Panel, Pen, Picture};
 use show::{bundle_bytes, grouped, progress, progress_done};
-use sid_filter::{run_samples, sample_point, Bundle, Curves, Event, Sample, Script, State, CLOCK_HZ, VOICE_REST, VOICE_SWING};
+use sid_filter::{run_samples, sample_point, Bundle, Curves, Decays, Event, Sample, Script, State, CLOCK_HZ, VOICE_REST, VOICE_SWING};
 use std::error::Error;
 use std::f64::consts::TAU;
 use std::path::Path;
@@ -73,7 +73,7 @@ impl Filter {
     fn run(&self, state: &mut State, events: &[Event]) -> Result<Vec<Sample>, Box<dyn Error>> {
         let script = Script::of(events)?;
         let mut output = vec![Sample::default(); script.samples()];
-        run_samples(&self.bundle, &self.curves, state, &script, &mut output)?;
+        run_samples(&self.bundle, &self.curves, state, &Decays::EMULATOR, &script, &mut output)?;
         Ok(output)
     }
 

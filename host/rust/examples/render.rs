@@ -3,7 +3,7 @@
 //! usage: render FILE
 //!
 //! The mix is the filter's selected output plus the voices beside the filter. The chip's mixer, its volume DAC and the board behind it are no
-//! part of the library's C interface, so none of them is in it.
+//! part of a run, so none of them is in it, and neither is the drum that the volume plays: its charges are in the state alone.
 //!
 //! - Its direct voltage is taken out by a one-pole high-pass at 16 Hz, which is about what the board's coupling capacitor does.
 //! - It is brought down from 985,248 Hz to 48,000 Hz in one step: a sinc of 677 taps under a Blackman window, half as high at 24 kHz, taken
@@ -14,8 +14,8 @@ mod show;
 mod song;
 
 use show::{bundle_bytes, grouped, progress, progress_done};
-use sid_filter::{pieces, run_samples, Bundle, Curves, Sample, State, CLOCK_HZ};
-use song::{Desk, Tick, BAR, BARS};
+use sid_filter::{pieces, run_samples, Bundle, Curves, Decays, Sample, State, CLOCK_HZ};
+use song::{Desk, Tick, BAR, BARS, DIGI_BAR, DIGI_WRITES};
 use std::error::Error;
 use std::f64::consts::PI;
 use std::process::ExitCode;
@@ -61,7 +61,7 @@ fn render(path: &str) -> Result<bool, Box<dyn Error>> {
         let mut beside = ticks.iter().filter(|tick| tick.event.is_sample()).map(|tick| tick.beside);
         for script in pieces(ticks.iter().map(|tick| tick.event)) {
             let mut output = vec![Sample::default(); script.samples()];
-            run_samples(&bundle, &curves, &mut state, &script, &mut output)?;
+            run_samples(&bundle, &curves, &mut state, &Decays::EMULATOR, &script, &mut output)?;
             for (sample, beside) in output.iter().zip(&mut beside) {
                 let mix = f64::from(sample.selected) + f64::from(beside);
                 let coupling = coupling.get_or_insert(mix);
@@ -79,6 +79,7 @@ fn render(path: &str) -> Result<bool, Box<dyn Error>> {
     println!("{path}: {BARS} bars, {} samples, 16 bit, mono, {rate} Hz", grouped(wave.len()));
     println!("   the filter's selected output and the voices beside it, direct voltage taken out at 16 Hz");
     println!("   brought down from {} Hz by a sinc of {TAPS} taps under a Blackman window", grouped(CLOCK_HZ as usize));
+    println!("   not heard: the drum of bar {DIGI_BAR}, {} writes of the volume", grouped(DIGI_WRITES as usize));
     println!("   peak {:.1} dB, RMS {:.1} dB of full scale, {} samples clipped", decibels(peak(&wave)), decibels(rms(&wave)), clipped);
     let mut right = clipped == 0;
     for bar in song::silent_bars() {

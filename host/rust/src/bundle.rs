@@ -1,3 +1,4 @@
+use crate::bytes::float_at;
 use crate::library;
 use crate::Refusal;
 use std::borrow::Cow;
@@ -27,10 +28,8 @@ impl<'a> Bundle<'a> {
     /// ```
     pub fn open(bytes: impl Into<Cow<'a, [u8]>>) -> Result<Bundle<'a>, Refusal> {
         let bytes = bytes.into();
-        match Refusal::of(library::open(&bytes)) {
-            None => Ok(Bundle { bytes }),
-            Some(refusal) => Err(refusal),
-        }
+        Refusal::check(library::open(&bytes))?;
+        Ok(Bundle { bytes })
     }
 
     /// The bytes that were opened.
@@ -61,10 +60,8 @@ impl Curves {
     /// Builds the curves of a bundle. The library looks at the entries of the analogue surface again (3); an opened bundle passes.
     pub fn build(bundle: &Bundle) -> Result<Curves, Refusal> {
         let mut bytes = vec![0; CURVES_BYTES].into_boxed_slice();
-        match Refusal::of(library::build_curves(bundle.as_bytes(), &mut bytes)) {
-            None => Ok(Curves { bytes }),
-            Some(refusal) => Err(refusal),
-        }
+        Refusal::check(library::build_curves(bundle.as_bytes(), &mut bytes))?;
+        Ok(Curves { bytes })
     }
 
     /// Curves that were kept as bytes. A run judges their length (4) and each entry that it reads (3).
@@ -80,7 +77,7 @@ impl Curves {
     /// The entries of one curve; none of a curve that is not there.
     pub fn curve(&self, index: usize) -> impl Iterator<Item = f32> + '_ {
         let entries = self.bytes.chunks_exact(4).skip(index.saturating_mul(Curves::ENTRIES)).take(Curves::ENTRIES);
-        entries.map(|entry| f32::from_le_bytes([entry[0], entry[1], entry[2], entry[3]]))
+        entries.map(|entry| float_at(entry, 0))
     }
 }
 

@@ -1,13 +1,14 @@
 //! The proved filter of the MOS 6581, from Rust.
 //!
 //! A [`Bundle`] is opened from its bytes, its [`Curves`] are built once, and [`run`] takes a [`Script`] of register writes and samples from
-//! and into a [`State`] of 24 bytes. The state is all that a filter remembers: keep it at bar 40, and a run from there gives the bytes that
-//! a run from the top has there. A script may be cut between any two events; each piece goes on from the state that the last one left.
+//! and into a [`State`] of 68 bytes. The state is all that a filter remembers: keep it at bar 40, and a run from there gives the bytes that
+//! a run from the top has there. A script may be cut between any two events; each piece goes on from the state that the last one left, with
+//! the same [`Decays`].
 //!
 //! What is refused is a [`Refusal`], with a number and a sentence.
 //!
 //! ```
-//! use sid_filter::{run_samples, voice_level, Bundle, Curves, Event, Sample, Script, State, VOICE_REST};
+//! use sid_filter::{run_samples, voice_level, Bundle, Curves, Decays, Event, Sample, Script, State, VOICE_REST};
 //!
 //! # fn main() -> Result<(), Box<dyn std::error::Error>> {
 //! # let path = concat!(env!("CARGO_MANIFEST_DIR"), "/../../data/bundle.bin");
@@ -24,7 +25,7 @@
 //! }
 //! let mut state = State::start();
 //! let mut output = vec![Sample::default(); script.samples()];
-//! let done = run_samples(&bundle, &curves, &mut state, &script, &mut output)?;
+//! let done = run_samples(&bundle, &curves, &mut state, &Decays::EMULATOR, &script, &mut output)?;
 //! assert_eq!((done.events, done.samples), (1_004, 1_000));
 //! assert_eq!(state.cutoff(), 1607);
 //! for sample in &output {
@@ -59,6 +60,9 @@
 //! **Behind the filter.** The volume and voice 3 off, bits 0 to 3 and 7 of [`Event::Mode`], change no sample: they act in the mixer and the
 //! volume DAC, which [`mixer`] and [`volume`] ask by themselves.
 //!
+//! **Charges.** A step of the volume charges the output node, by 3152.0623 and 2777.7222 in the units of the emulator's output for one from
+//! 15 to 0. That is the click of the volume, by which digi tunes play. The [`Charges`] stand in the state; no sample reads them.
+//!
 //! **From voices.** [`collect`] works `input_sum` and `source_energy` out from three [`Voice`]s and the external input's [`Levels`], with the
 //! six other [`Sums`] of a clock: what goes into the filter, and what goes beside it.
 //!
@@ -69,6 +73,8 @@
 #![deny(unsafe_code)]
 
 mod bundle;
+mod bytes;
+mod decays;
 #[cfg(test)]
 mod header;
 mod level;
@@ -82,10 +88,11 @@ mod state;
 mod voice;
 
 pub use bundle::{Bundle, Curves, BUNDLE_BYTES, CURVES_BYTES};
+pub use decays::{Decays, DECAYS_BYTES};
 pub use level::{voice_level, CLOCK_HZ, MODE_REST, VOICE_REST, VOICE_RISE, VOICE_SWING};
 pub use point::{mixer, sample_curve, sample_point, summer, volume, Point};
 pub use refusal::{Buffer, Refusal};
 pub use run::{run, run_bytes, run_samples, samples, Done, Sample, Stop, SAMPLE_BYTES};
 pub use script::{pieces, Event, Full, Pieces, Script, EVENTS_MAX, EVENT_BYTES, SCRIPT_HEADER_BYTES};
-pub use state::{State, STATE_BYTES};
+pub use state::{Charges, State, NARROW_STATE_BYTES, STATE_BYTES};
 pub use voice::{collect, Levels, Sums, Voice, NUMBERS_BYTES, SUMS_BYTES, VOICE_BYTES};

@@ -28,6 +28,7 @@ pub(crate) struct PointAnswer {
 extern "C" {
     fn sid_filter_open(bundle: *const u8, bundle_len: usize) -> Answer;
     fn sid_filter_build_curves(bundle: *const u8, bundle_len: usize, curves: *mut u8, curves_len: usize) -> Answer;
+    fn sid_filter_widen_state(block: *const u8, block_len: usize, wide: *mut u8, wide_len: usize) -> Answer;
     fn sid_filter_run(
         bundle: *const u8,
         bundle_len: usize,
@@ -35,6 +36,8 @@ extern "C" {
         curves_len: usize,
         state: *mut u8,
         state_len: usize,
+        decays: *const u8,
+        decays_len: usize,
         script: *const u8,
         script_len: usize,
         output: *mut u8,
@@ -78,8 +81,14 @@ pub(crate) fn build_curves(bundle: &[u8], curves: &mut [u8]) -> Answer {
     unsafe { sid_filter_build_curves(bundle.as_ptr(), bundle.len(), curves.as_mut_ptr(), curves.len()) }
 }
 
+/// Turns a block of 24 bytes into one of 68.
+pub(crate) fn widen_state(block: &[u8], wide: &mut [u8]) -> Answer {
+    // SAFETY: slices' pointers and lengths; only `wide` is written, and it is borrowed alone.
+    unsafe { sid_filter_widen_state(block.as_ptr(), block.len(), wide.as_mut_ptr(), wide.len()) }
+}
+
 /// Runs a script.
-pub(crate) fn run(bundle: &[u8], curves: &[u8], state: &mut [u8], script: &[u8], output: &mut [u8]) -> Answer {
+pub(crate) fn run(bundle: &[u8], curves: &[u8], state: &mut [u8], decays: &[u8], script: &[u8], output: &mut [u8]) -> Answer {
     // SAFETY: slices' pointers and lengths; only `state` and `output` are written, and each is borrowed alone.
     unsafe {
         sid_filter_run(
@@ -89,6 +98,8 @@ pub(crate) fn run(bundle: &[u8], curves: &[u8], state: &mut [u8], script: &[u8],
             curves.len(),
             state.as_mut_ptr(),
             state.len(),
+            decays.as_ptr(),
+            decays.len(),
             script.as_ptr(),
             script.len(),
             output.as_mut_ptr(),
@@ -154,10 +165,11 @@ pub(crate) fn bytes_of(samples: &mut [Sample]) -> &mut [u8] {
 
 #[cfg(test)]
 mod tests {
-    use super::{Answer, PointAnswer};
+    use super::{build_curves, run, widen_state, Answer, PointAnswer};
+    use crate::bytes::of_floats;
     use crate::header::{defined, HEADER};
-    use crate::{Point, BUNDLE_BYTES, CURVES_BYTES, EVENTS_MAX, EVENT_BYTES, SAMPLE_BYTES, SCRIPT_HEADER_BYTES, STATE_BYTES};
-    use crate::{NUMBERS_BYTES, SUMS_BYTES, VOICE_BYTES};
+    use crate::{Decays, Event, Point, Refusal, Script, BUNDLE_BYTES, CURVES_BYTES, DECAYS_BYTES, EVENTS_MAX, EVENT_BYTES};
+    use crate::{NARROW_STATE_BYTES, NUMBERS_BYTES, SAMPLE_BYTES, SCRIPT_HEADER_BYTES, STATE_BYTES, SUMS_BYTES, VOICE_BYTES};
     use std::mem::{align_of, offset_of, size_of};
 
     /// The five words lie as C lays them, in the order in which the header names them.
@@ -203,6 +215,8 @@ mod tests {
             ("BUNDLE_BYTES", BUNDLE_BYTES),
             ("CURVES_BYTES", CURVES_BYTES),
             ("STATE_BYTES", STATE_BYTES),
+            ("NARROW_STATE_BYTES", NARROW_STATE_BYTES),
+            ("DECAYS_BYTES", DECAYS_BYTES),
             ("SCRIPT_HEADER_BYTES", SCRIPT_HEADER_BYTES),
             ("EVENT_BYTES", EVENT_BYTES),
             ("SAMPLE_BYTES", SAMPLE_BYTES),
@@ -214,6 +228,83 @@ mod tests {
         for (name, ours) in lengths {
             assert_eq!(defined(name).parse(), Ok(ours), "{name}");
         }
+    }
+
+    /// The repository's bundle, and its curves.
+    fn tables() -> (Vec<u8>, Vec<u8>) {
+        let bundle = std::fs::read(concat!(env!("CARGO_MANIFEST_DIR"), "/../../data/bundle.bin")).expect("the repository's bundle");
+        let mut curves = vec![0; CURVES_BYTES];
+        assert_eq!(build_curves(&bundle, &mut curves).number, 0);
+        (bundle, curves)
+    }
+
+    /// The number of a run that does no event, and so leaves everything.
+    fn number_of(bundle: &[u8], curves: &[u8], state: &[u8], decays: &[u8], script: &[u8], output: &[u8]) -> u32 {
+        let (mut left, mut written) = (state.to_vec(), output.to_vec());
+        let Answer { number, events, samples, .. } = run(bundle, curves, &mut left, decays, script, &mut written);
+        assert_eq!((events, samples, &left[..], &written[..]), (0, 0, state, output));
+        number
+    }
+
+    /// The causes are found in the order of the header, one after another as each is put right.
+    #[test]
+    fn a_run_refuses_in_order() {
+        let (bundle, curves) = tables();
+        let script = Script::of(&[Event::Sample { input_sum: 0.0, source_energy: 0.0 }]).expect("one event");
+        let (state, decays, script) = ([0; STATE_BYTES], Decays::EMULATOR.to_bytes(), script.as_bytes());
+        assert_eq!(number_of(&bundle, &[], &[], &[], &[], &[]), 4);
+        assert_eq!(number_of(&bundle, &curves, &[], &[], &[], &[]), 10);
+        assert_eq!(number_of(&bundle, &curves, &state, &[], &[], &[]), 12);
+        assert_eq!(number_of(&bundle, &curves, &state, &decays, &[], &[]), 7);
+        assert_eq!(number_of(&bundle, &curves, &state, &decays, script, &[]), 8);
+        assert_eq!(number_of(&bundle, &curves, &state, &decays, Script::new().as_bytes(), &[]), 0);
+    }
+
+    /// What the types of the package leave no room for: blocks and decays of other lengths.
+    #[test]
+    fn other_lengths_are_refused() {
+        let (bundle, curves) = tables();
+        let number_of = |state: &[u8], decays: &[u8]| number_of(&bundle, &curves, state, decays, Script::new().as_bytes(), &[]);
+        for length in [0, NARROW_STATE_BYTES, STATE_BYTES - 1, STATE_BYTES + 1] {
+            assert_eq!(number_of(&vec![0; length], &[0; DECAYS_BYTES]), 10, "{length} bytes");
+            let mut wide = vec![0xaa; length];
+            assert_eq!(widen_state(&[0; NARROW_STATE_BYTES], &mut wide).number, 10, "{length} bytes");
+            assert!(wide.iter().all(|byte| *byte == 0xaa));
+        }
+        for length in [0, DECAYS_BYTES - 1, DECAYS_BYTES + 1] {
+            assert_eq!(number_of(&[0; STATE_BYTES], &vec![0; length]), 12, "{length} bytes");
+        }
+    }
+
+    /// `Decays` refuses what a run refuses, in each of the six places.
+    #[test]
+    fn decays_are_what_a_run_takes() {
+        let (bundle, curves) = tables();
+        let smallest = f32::from_bits(1);
+        let taken = [0.0, -0.0, smallest, 0.5, 1.0].map(|number| (number, 0));
+        let refused = [-smallest, 1.0 + f32::EPSILON, -1.0, f32::NAN, f32::INFINITY, f32::NEG_INFINITY].map(|number| (number, 12));
+        for ((number, told), place) in taken.iter().chain(&refused).flat_map(|case| (0..6).map(move |place| (*case, place))) {
+            let mut numbers = Decays::EMULATOR.numbers();
+            numbers[place] = number;
+            let decays: [u8; DECAYS_BYTES] = of_floats(numbers);
+            let ours = number_of(&bundle, &curves, &[0; STATE_BYTES], &decays, Script::new().as_bytes(), &[]);
+            assert_eq!((ours, Decays::new(numbers).map_or_else(Refusal::number, |_| 0)), (told, told), "{number} at {place}");
+        }
+    }
+
+    /// A mode write that leaves the domain by its charge: the unusable entry that it reads comes first.
+    #[test]
+    fn an_entry_comes_before_a_charge() {
+        // In section 5: low-pass, cutoff 0, displacement 0.
+        const ENTRY: usize = 3_301_496 + 4 * 57;
+        let (mut bundle, curves) = tables();
+        let script = Script::of(&[Event::Mode(0x10)]).expect("one event");
+        let mut state = [0; STATE_BYTES];
+        state[44..48].copy_from_slice(&f32::MAX.to_le_bytes());
+        let number_of = |bundle: &[u8]| number_of(bundle, &curves, &state, &Decays::EMULATOR.to_bytes(), script.as_bytes(), &[]);
+        assert_eq!(number_of(&bundle), 6);
+        bundle[ENTRY..ENTRY + 4].copy_from_slice(&f32::NAN.to_le_bytes());
+        assert_eq!(number_of(&bundle), 3);
     }
 
     /// The version is the header's.

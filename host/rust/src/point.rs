@@ -21,10 +21,8 @@ impl Point {
 
     /// The point of an answer, or its refusal.
     fn of(answered: PointAnswer) -> Result<Point, Refusal> {
-        match Refusal::of(answered.answer) {
-            None => Ok(answered.point),
-            Some(refusal) => Err(refusal),
-        }
+        Refusal::check(answered.answer)?;
+        Ok(answered.point)
     }
 }
 
@@ -58,14 +56,14 @@ pub fn volume(curves: &Curves, volume: u8, value: f32) -> Result<Point, Refusal>
 /// refused as that sample is: 4, 10, 5, 3 or 6.
 ///
 /// ```
-/// use sid_filter::{run, sample_point, Bundle, Curves, Event, Script, State, VOICE_REST};
+/// use sid_filter::{run, sample_point, Bundle, Curves, Decays, Event, Script, State, VOICE_REST};
 ///
 /// # fn main() -> Result<(), Box<dyn std::error::Error>> {
 /// # let path = concat!(env!("CARGO_MANIFEST_DIR"), "/../../data/bundle.bin");
 /// let bundle = Bundle::open(std::fs::read(path)?)?;
 /// let curves = Curves::build(&bundle)?;
 /// let mut state = State::start();
-/// run(&bundle, &curves, &mut state, &Script::of(&[Event::Routing(1)])?, &mut [])?;
+/// run(&bundle, &curves, &mut state, &Decays::EMULATOR, &Script::of(&[Event::Routing(1)])?, &mut [])?;
 /// let point = sample_point(&bundle, &curves, &state, VOICE_REST, 0.0)?;
 /// assert_eq!(point.index, 821); // of curve 3: voice 1, and the two inputs that are always there
 /// # Ok(())

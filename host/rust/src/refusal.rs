@@ -10,7 +10,7 @@ pub enum Buffer {
     Curves,
 }
 
-/// Why a call was refused: the ten causes that include/sid_filter.h lists. Its text is the sentence, with the place where there is one.
+/// Why a call was refused: the eleven causes that include/sid_filter.h lists. Its text is the sentence, with the place where there is one.
 #[derive(Clone, Copy, Debug, PartialEq, Eq, Hash)]
 pub enum Refusal {
     /// 1: the bundle has another length.
@@ -41,10 +41,12 @@ pub enum Refusal {
     Argument,
     /// 11: a number of a voice, a level or a blend is not finite, or a voice's selection is above 15.
     Sources,
+    /// 12: one of the decays is not from 0 to 1.
+    Decays,
 }
 
 impl Refusal {
-    /// The cause's number in the table, 1 to 8, 10 or 11; 9 is unused.
+    /// The cause's number in the table, 1 to 8 or 10 to 12; 9 is unused.
     pub fn number(self) -> u32 {
         match self {
             Refusal::BundleLength => 1,
@@ -57,6 +59,7 @@ impl Refusal {
             Refusal::OutputLength => 8,
             Refusal::Argument => 10,
             Refusal::Sources => 11,
+            Refusal::Decays => 12,
         }
     }
 
@@ -76,6 +79,7 @@ impl Refusal {
             Refusal::OutputLength => "the output is shorter than 16 bytes a sample event",
             Refusal::Argument => "the state block is invalid",
             Refusal::Sources => "a voice, or a number lent beside the voices, is invalid",
+            Refusal::Decays => "the decays are not six numbers from 0 to 1",
         }
     }
 
@@ -95,24 +99,25 @@ impl Refusal {
         }
     }
 
-    /// The refusal of an answer; `None` on success, number 0.
-    pub(crate) fn of(answer: Answer) -> Option<Refusal> {
+    /// The refusal of an answer; none on success, number 0.
+    pub(crate) fn check(answer: Answer) -> Result<(), Refusal> {
         let place = answer.place;
         let buffer = if answer.buffer == 0 { Buffer::Bundle } else { Buffer::Curves };
-        match answer.number {
-            0 => None,
-            1 => Some(Refusal::BundleLength),
-            2 => Some(Refusal::Header { place }),
-            3 => Some(Refusal::Entry { buffer, place }),
-            4 => Some(Refusal::CurvesLength),
-            5 => Some(Refusal::InputNotFinite),
-            6 => Some(Refusal::Domain),
-            7 => Some(Refusal::Script),
-            8 => Some(Refusal::OutputLength),
-            10 => Some(Refusal::Argument),
-            11 => Some(Refusal::Sources),
-            number => unreachable!("the library answers 0 to 8, 10 or 11, not {number}"),
-        }
+        Err(match answer.number {
+            0 => return Ok(()),
+            1 => Refusal::BundleLength,
+            2 => Refusal::Header { place },
+            3 => Refusal::Entry { buffer, place },
+            4 => Refusal::CurvesLength,
+            5 => Refusal::InputNotFinite,
+            6 => Refusal::Domain,
+            7 => Refusal::Script,
+            8 => Refusal::OutputLength,
+            10 => Refusal::Argument,
+            11 => Refusal::Sources,
+            12 => Refusal::Decays,
+            number => unreachable!("the library answers 0 to 8 or 10 to 12, not {number}"),
+        })
     }
 }
 
@@ -141,12 +146,12 @@ mod tests {
         Answer { number, events: 0, samples: 0, buffer: 1, place: 56 }
     }
 
-    /// Each of the ten has its number, and buffer and place where the table has them.
+    /// Each of the eleven has its number, and buffer and place where the table has them.
     #[test]
     fn every_number_has_its_refusal() {
-        assert_eq!(Refusal::of(answer(0)), None);
-        for number in (1..=8).chain([10, 11]) {
-            let refusal = Refusal::of(answer(number)).expect("a refusal");
+        assert_eq!(Refusal::check(answer(0)), Ok(()));
+        for number in (1..=8).chain(10..=12) {
+            let refusal = Refusal::check(answer(number)).expect_err("a refusal");
             assert_eq!(refusal.number(), number);
             assert_eq!(refusal.buffer(), (number == 3).then_some(Buffer::Curves));
             assert_eq!(refusal.place(), (number == 2 || number == 3).then_some(56));
@@ -168,6 +173,7 @@ mod tests {
             ("OUTPUT_LENGTH", Refusal::OutputLength),
             ("ARGUMENT", Refusal::Argument),
             ("SOURCES", Refusal::Sources),
+            ("DECAYS", Refusal::Decays),
         ];
         for (name, refusal) in named {
             let line = format!("    SID_FILTER_{name} = {}", refusal.number());
@@ -192,6 +198,7 @@ mod tests {
             ("OutputLength", Refusal::OutputLength),
             ("Argument", Refusal::Argument),
             ("Sources", Refusal::Sources),
+            ("Decays", Refusal::Decays),
         ];
         for (name, refusal) in named {
             let words = format!("ascii \"{}\"", refusal.sentence());

@@ -1,5 +1,6 @@
+use crate::bytes::float_at;
 use crate::library;
-use crate::{Bundle, Curves, Refusal, Script, State};
+use crate::{Bundle, Curves, Decays, Refusal, Script, State};
 use std::fmt;
 
 /// The length of a sample's output in bytes.
@@ -57,8 +58,7 @@ pub struct Sample {
 impl Sample {
     /// Reads a sample of an output.
     pub fn from_bytes(bytes: &[u8; SAMPLE_BYTES]) -> Sample {
-        let float = |place: usize| f32::from_le_bytes([bytes[place], bytes[place + 1], bytes[place + 2], bytes[place + 3]]);
-        Sample { high: float(0), band: float(4), low: float(8), selected: float(12) }
+        Sample { high: float_at(bytes, 0), band: float_at(bytes, 4), low: float_at(bytes, 8), selected: float_at(bytes, 12) }
     }
 }
 
@@ -75,27 +75,42 @@ pub fn samples(output: &[u8]) -> impl ExactSizeIterator<Item = Sample> + '_ {
 ///
 /// Refused before the first event are curves of another length (4), an invalid state (10), an output shorter than
 /// [`Script::output_bytes`] (8), and entries (3) or controls (6) that the state leads to; at an event a sum or energy that is not finite
-/// (5), an entry (3) and a number that would not be finite (6).
+/// (5), an entry (3) and a number that would not be finite (6), a charge of a mode write among them. Pieces of a script go with the same
+/// decays.
 ///
 /// A call of one sample takes 190 to 215 ns. A sample takes 80 ns in blocks of 16, 75 ns in blocks of 64, and 73 ns in blocks of 1,024 or
 /// more. This is one voice, a sine in a low-pass, with the scripts built before: the best of 200 rounds of the example `cost`, in five
 /// sittings on an AMD EPYC that others used at the same time.
-pub fn run(bundle: &Bundle, curves: &Curves, state: &mut State, script: &Script, output: &mut [u8]) -> Result<Done, Stop> {
-    run_bytes(bundle, curves, state, script.as_bytes(), output)
+pub fn run(bundle: &Bundle, curves: &Curves, state: &mut State, decays: &Decays, script: &Script, output: &mut [u8]) -> Result<Done, Stop> {
+    run_bytes(bundle, curves, state, decays, script.as_bytes(), output)
 }
 
 /// Runs a script as [`run`] does, and writes samples in place of bytes. Nothing is copied or allocated. Fewer samples than
 /// [`Script::samples`] are refused with 8.
-pub fn run_samples(bundle: &Bundle, curves: &Curves, state: &mut State, script: &Script, samples: &mut [Sample]) -> Result<Done, Stop> {
-    run(bundle, curves, state, script, library::bytes_of(samples))
+pub fn run_samples(
+    bundle: &Bundle,
+    curves: &Curves,
+    state: &mut State,
+    decays: &Decays,
+    script: &Script,
+    samples: &mut [Sample],
+) -> Result<Done, Stop> {
+    run(bundle, curves, state, decays, script, library::bytes_of(samples))
 }
 
 /// Runs a script that was kept as bytes. Bytes that are no script are refused with 7, after the state and before the output.
-pub fn run_bytes(bundle: &Bundle, curves: &Curves, state: &mut State, script: &[u8], output: &mut [u8]) -> Result<Done, Stop> {
-    let answer = library::run(bundle.as_bytes(), curves.as_bytes(), state.bytes_mut(), script, output);
+pub fn run_bytes(
+    bundle: &Bundle,
+    curves: &Curves,
+    state: &mut State,
+    decays: &Decays,
+    script: &[u8],
+    output: &mut [u8],
+) -> Result<Done, Stop> {
+    let answer = library::run(bundle.as_bytes(), curves.as_bytes(), state.bytes_mut(), &decays.to_bytes(), script, output);
     let (events, samples) = (answer.events as usize, answer.samples as usize);
-    match Refusal::of(answer) {
-        None => Ok(Done { events, samples }),
-        Some(refusal) => Err(Stop { refusal, events, samples }),
+    match Refusal::check(answer) {
+        Ok(()) => Ok(Done { events, samples }),
+        Err(refusal) => Err(Stop { refusal, events, samples }),
     }
 }

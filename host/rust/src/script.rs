@@ -17,7 +17,7 @@ pub enum Event {
     /// Register 23: resonance in the high nibble, routing in the low one: bits 0 to 2 voices 1 to 3, bit 3 the external input.
     Routing(u8),
     /// Register 24: mode in the high nibble, volume in the low one. The volume and bit 7, voice 3 off, change no sample: they act behind
-    /// the filter.
+    /// the filter. A step of the volume changes the state's [`Charges`](crate::Charges).
     Mode(u8),
     /// One sample, which is one clock of the chip.
     Sample {

@@ -1,3 +1,4 @@
+use crate::bytes::{float_at, of_floats};
 use crate::library;
 use crate::Refusal;
 
@@ -73,22 +74,22 @@ pub struct Sums {
 
 impl Sums {
     fn from_bytes(bytes: &[u8; SUMS_BYTES]) -> Sums {
-        let float = |place: usize| f32::from_le_bytes([bytes[place], bytes[place + 1], bytes[place + 2], bytes[place + 3]]);
         Sums {
-            filter_input: float(0),
-            source_energy: float(4),
-            filter_activity: float(8),
-            bypass_input: float(12),
-            bypass_activity: float(16),
-            pure_activity: float(20),
-            attack_drive: float(24),
-            pulse_activity: float(28),
+            filter_input: float_at(bytes, 0),
+            source_energy: float_at(bytes, 4),
+            filter_activity: float_at(bytes, 8),
+            bypass_input: float_at(bytes, 12),
+            bypass_activity: float_at(bytes, 16),
+            pure_activity: float_at(bytes, 20),
+            attack_drive: float_at(bytes, 24),
+            pulse_activity: float_at(bytes, 28),
         }
     }
 }
 
 /// Collects the sums of a routing and a mode nibble: voices 1 to 3 in turn, then the external input. `blends` says how far each voice's saw
-/// is bent at the mixer, 0 to 1. A voice at envelope 0 adds its rest where it is routed, and nothing else.
+/// is bent at the mixer, 0 to 1; [`State::blends`](crate::State::blends) are such. A voice at envelope 0 adds its rest where it is routed, and
+/// nothing else.
 ///
 /// Refused are a nibble above 15 (10), a number of a voice, a level or a blend that is not finite or a selection above 15, also of a voice
 /// that this routing does not read (11), and a sum that would not be finite (6).
@@ -107,16 +108,11 @@ impl Sums {
 /// # }
 /// ```
 pub fn collect(routing: u8, mode: u8, voices: &[Voice; 3], levels: &Levels, blends: &[f32; 3]) -> Result<Sums, Refusal> {
-    let (mut voice_bytes, mut number_bytes, mut sums) = ([0; 3 * VOICE_BYTES], [0; NUMBERS_BYTES], [0; SUMS_BYTES]);
+    let (mut voice_bytes, mut sums) = ([0; 3 * VOICE_BYTES], [0; SUMS_BYTES]);
     for (place, voice) in voice_bytes.chunks_exact_mut(VOICE_BYTES).zip(voices) {
         place.copy_from_slice(&voice.to_bytes());
     }
-    let numbers = [levels.raw, levels.filter, levels.mixer].into_iter().chain(*blends);
-    for (place, number) in number_bytes.chunks_exact_mut(4).zip(numbers) {
-        place.copy_from_slice(&number.to_le_bytes());
-    }
-    match Refusal::of(library::collect(routing, mode, &voice_bytes, &number_bytes, &mut sums)) {
-        None => Ok(Sums::from_bytes(&sums)),
-        Some(refusal) => Err(refusal),
-    }
+    let numbers: [u8; NUMBERS_BYTES] = of_floats([levels.raw, levels.filter, levels.mixer].into_iter().chain(*blends));
+    Refusal::check(library::collect(routing, mode, &voice_bytes, &numbers, &mut sums))?;
+    Ok(Sums::from_bytes(&sums))
 }

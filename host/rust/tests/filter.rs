@@ -6,6 +6,8 @@ const BUNDLE: &str = concat!(env!("CARGO_MANIFEST_DIR"), "/../../data/bundle.bin
 const CURVES: &str = concat!(env!("CARGO_MANIFEST_DIR"), "/../../crates/vectors_surface/data/curves.bin");
 /// Where the surface's first entry begins in the bundle.
 const SURFACE: usize = 2_105_464;
+/// What every run is lent.
+const DECAYS: &Decays = &Decays::EMULATOR;
 
 fn bytes() -> &'static [u8] {
     static BYTES: OnceLock<Vec<u8>> = OnceLock::new();
@@ -60,15 +62,27 @@ fn song() -> Vec<Event> {
 /// Runs one script from a state: what it answers, the state after it, and the output.
 fn run_from(mut state: State, script: &Script) -> (Result<Done, Stop>, State, Vec<u8>) {
     let mut output = vec![0xaa; script.output_bytes()];
-    let answer = run(&bundle(), curves(), &mut state, script, &mut output);
+    let answer = run(&bundle(), curves(), &mut state, DECAYS, script, &mut output);
     (answer, state, output)
 }
 
+/// The state after these events, all of which are done.
+fn after(state: State, events: &[Event]) -> State {
+    let (answer, state, _) = run_from(state, &Script::of(events).unwrap());
+    assert_eq!(answer.map(|done| done.events), Ok(events.len()));
+    state
+}
+
 /// A state whose bytes from a place on are others.
-fn state_with(place: usize, bytes: &[u8]) -> State {
-    let mut block = *State::start().as_bytes();
+fn with(state: State, place: usize, bytes: &[u8]) -> State {
+    let mut block = *state.as_bytes();
     block[place..place + bytes.len()].copy_from_slice(bytes);
     State::from_bytes(block)
+}
+
+/// Such a state that else is the starting value.
+fn state_with(place: usize, bytes: &[u8]) -> State {
+    with(State::start(), place, bytes)
 }
 
 #[test]
@@ -97,7 +111,7 @@ fn an_engine_owns_its_bundle_and_threads_share_it() {
     let play = || {
         let mut state = State::start();
         let mut output = vec![0xaa; script.output_bytes()];
-        let answer = run(&engine.bundle, &engine.curves, &mut state, &script, &mut output);
+        let answer = run(&engine.bundle, &engine.curves, &mut state, DECAYS, &script, &mut output);
         (answer, state, output)
     };
     let played = std::thread::scope(|scope| [scope.spawn(play), scope.spawn(play)].map(|thread| thread.join().unwrap()));
@@ -152,7 +166,7 @@ fn no_event_leaves_everything() {
     for state in [State::start(), run_from(State::start(), &Script::of(&song()).unwrap()).1] {
         let mut after = state;
         let mut output = [0xaa; 32];
-        let done = run(&bundle(), curves(), &mut after, &Script::new(), &mut output);
+        let done = run(&bundle(), curves(), &mut after, DECAYS, &Script::new(), &mut output);
         assert_eq!(done, Ok(Done { events: 0, samples: 0 }));
         assert_eq!((after, output), (state, [0xaa; 32]));
     }
@@ -160,14 +174,14 @@ fn no_event_leaves_everything() {
 
 #[test]
 fn the_writes_are_those_of_the_cases() {
-    let after = |events: &[Event]| run_from(State::start(), &Script::of(events).unwrap()).1;
-    let state = after(&[Event::CutoffLow(7), Event::CutoffHigh(1)]);
+    let start = State::start();
+    let state = after(start, &[Event::CutoffLow(7), Event::CutoffHigh(1)]);
     assert_eq!((state.cutoff(), state.displacement(), state.pending()), (15, 13, false));
-    let state = after(&[Event::CutoffLow(7), Event::CutoffLow(3), Event::CutoffHigh(1)]);
+    let state = after(start, &[Event::CutoffLow(7), Event::CutoffLow(3), Event::CutoffHigh(1)]);
     assert_eq!((state.cutoff(), state.displacement(), state.write_base()), (11, 3, 7));
-    let state = after(&[Event::CutoffLow(7), Event::Routing(0xf5), Event::Mode(0x9c)]);
+    let state = after(start, &[Event::CutoffLow(7), Event::Routing(0xf5), Event::Mode(0x9c)]);
     assert_eq!((state.pending(), state.resonance(), state.routing(), state.mode(), state.volume()), (true, 15, 5, 9, 12));
-    assert_eq!(after(&[Event::CutoffHigh(9), Event::Mode(0xff), Event::Reset]), State::start());
+    assert_eq!(after(charged(), &[Event::CutoffHigh(9), Event::Mode(0xff), Event::Reset]), start);
 }
 
 /// The indented blocks of the example in docs/FORMATS.md, as bytes: header, script, sample and state.
@@ -183,17 +197,17 @@ fn the_example_of_the_formats() {
     let [header, script, sample, block] = &example[..] else { panic!("{} blocks", example.len()) };
     assert_eq!(header[..], bytes()[..56]);
     let (mut state, mut output) = (State::start(), [0xaa; 20]);
-    let done = run_bytes(&bundle(), curves(), &mut state, script, &mut output).expect("a run to the end");
+    let done = run_bytes(&bundle(), curves(), &mut state, DECAYS, script, &mut output).expect("a run to the end");
     assert_eq!((done.events, done.samples), (5, 1));
     assert_eq!((&output[..16], &output[16..]), (&sample[..], &[0xaa; 4][..]));
     assert_eq!(state.as_bytes()[..], block[..]);
 
     let (mut script, mut state, mut output) = (script.clone(), State::start(), [0xaa; 20]);
     script[60..64].copy_from_slice(&f32::INFINITY.to_le_bytes());
-    let stop = run_bytes(&bundle(), curves(), &mut state, &script, &mut output).expect_err("a stop");
+    let stop = run_bytes(&bundle(), curves(), &mut state, DECAYS, &script, &mut output).expect_err("a stop");
     assert_eq!((stop.refusal.number(), stop.events, stop.samples), (5, 4, 0));
     assert_eq!(output, [0xaa; 20]);
-    assert_eq!((&state.as_bytes()[..12], &state.as_bytes()[12..]), (&block[..12], &[0; 12][..]));
+    assert_eq!(state.as_bytes()[..], [&block[..12], &[0; 12], &block[24..]].concat());
 }
 
 #[test]
@@ -203,7 +217,7 @@ fn samples_are_the_bytes() {
     let (answer, after, output) = run_from(State::start(), &script);
     let mut state = State::start();
     let mut written = [LATER; 13];
-    assert_eq!(run_samples(&bundle(), curves(), &mut state, &script, &mut written), answer);
+    assert_eq!(run_samples(&bundle(), curves(), &mut state, DECAYS, &script, &mut written), answer);
     assert_eq!(state, after);
     assert!(samples(&output).eq(written[..10].iter().copied()));
     assert_eq!(written[10..], [LATER; 3]);
@@ -213,7 +227,7 @@ fn samples_are_the_bytes() {
     assert!(samples(&output).map(bits).eq(written[..10].iter().copied().map(bits)));
 
     let (mut state, mut few) = (State::start(), [LATER; 9]);
-    let stop = run_samples(&bundle(), curves(), &mut state, &script, &mut few).unwrap_err();
+    let stop = run_samples(&bundle(), curves(), &mut state, DECAYS, &script, &mut few).unwrap_err();
     assert_eq!(stop, Stop { refusal: Refusal::OutputLength, events: 0, samples: 0 });
     assert_eq!((state, few), (State::start(), [LATER; 9]));
 }
@@ -222,7 +236,7 @@ fn samples_are_the_bytes() {
 fn a_stopped_run_keeps_the_later_samples() {
     let script = Script::of(&[sample(0.0, 0.0), sample(f32::NAN, 0.0), sample(0.0, 0.0)]).unwrap();
     let mut written = [Sample { selected: 5.0, ..Sample::default() }; 3];
-    let stop = run_samples(&bundle(), curves(), &mut State::start(), &script, &mut written).unwrap_err();
+    let stop = run_samples(&bundle(), curves(), &mut State::start(), DECAYS, &script, &mut written).unwrap_err();
     assert_eq!((stop.refusal, stop.samples), (Refusal::InputNotFinite, 1));
     assert_eq!(written.map(|sample| sample.selected), [0.0, 5.0, 5.0]);
 }
@@ -271,10 +285,12 @@ fn volume_and_voice_3_off_change_no_sample() {
         assert!(answer.is_ok());
         assert_eq!(answer, other_answer, "round {round}");
         assert!(output == other_output, "round {round}");
-        // The states differ in volume and voice 3 off alone.
+        // The states differ in volume and voice 3 off alone, and in what the volume charges.
         let [block, other_block] = [state, other_state].map(|state| {
             let mut block = *state.as_bytes();
             (block[9], block[10]) = (block[9] & 7, 0);
+            block[24..32].fill(0);
+            block[44..48].fill(0);
             block
         });
         assert_eq!(block, other_block, "round {round}");
@@ -369,7 +385,7 @@ fn refusal_3_of_the_curves() {
     let mut state = State::start();
     let mut output = [0xaa; 32];
     let script = Script::of(&[Event::Mode(0x1f), sample(0.0, 0.0), Event::Routing(0x01), sample(0.0, 0.0)]).unwrap();
-    let stop = run(&bundle(), &Curves::from_bytes(damaged), &mut state, &script, &mut output).unwrap_err();
+    let stop = run(&bundle(), &Curves::from_bytes(damaged), &mut state, DECAYS, &script, &mut output).unwrap_err();
     assert_eq!((stop.events, stop.samples), (3, 1));
     let Refusal::Entry { buffer: Buffer::Curves, place } = stop.refusal else { panic!("{stop}") };
     assert_eq!(place as usize / (4 * Curves::ENTRIES), 3, "curve 3 is the summer's with one voice");
@@ -378,7 +394,7 @@ fn refusal_3_of_the_curves() {
 #[test]
 fn refusal_4() {
     let short = Curves::from_bytes(&curves().as_bytes()[4..]);
-    let stop = run(&bundle(), &short, &mut State::start(), &Script::new(), &mut []).unwrap_err();
+    let stop = run(&bundle(), &short, &mut State::start(), DECAYS, &Script::new(), &mut []).unwrap_err();
     assert_eq!(stop, Stop { refusal: Refusal::CurvesLength, events: 0, samples: 0 });
 }
 
@@ -409,7 +425,7 @@ fn refusal_7() {
     let whole = Script::of(&song()).unwrap();
     let refused = |script: &[u8]| {
         let mut state = State::start();
-        let stop = run_bytes(&bundle(), curves(), &mut state, script, &mut [0; 160]).unwrap_err();
+        let stop = run_bytes(&bundle(), curves(), &mut state, DECAYS, script, &mut [0; 160]).unwrap_err();
         assert_eq!((stop.refusal, stop.events, stop.samples, state), (Refusal::Script, 0, 0, State::start()));
     };
     refused(&[]);
@@ -426,25 +442,21 @@ fn refusal_8() {
     let script = Script::of(&song()).unwrap();
     let mut state = State::start();
     let mut output = vec![0xaa; script.output_bytes() - 1];
-    let stop = run(&bundle(), curves(), &mut state, &script, &mut output).unwrap_err();
+    let stop = run(&bundle(), curves(), &mut state, DECAYS, &script, &mut output).unwrap_err();
     assert_eq!(stop, Stop { refusal: Refusal::OutputLength, events: 0, samples: 0 });
     assert_eq!(state, State::start());
     assert!(output.iter().all(|byte| *byte == 0xaa));
 }
 
+/// Places of a block's first 24 bytes, and what is invalid there.
+const INVALID: [(usize, &[u8]); 8] =
+    [(0, &[0, 8]), (2, &[58, 0]), (4, &[0, 8]), (6, &[2]), (7, &[16]), (11, &[1]), (16, &[0, 0, 0x80, 0x7f]), (20, &[0, 0, 0xc0, 0x7f])];
+
 #[test]
 fn refusal_10() {
-    let invalid: [(usize, &[u8]); 8] = [
-        (0, &[0, 8]),
-        (2, &[58, 0]),
-        (4, &[0, 8]),
-        (6, &[2]),
-        (7, &[16]),
-        (11, &[1]),
-        (16, &[0, 0, 0x80, 0x7f]),
-        (20, &[0, 0, 0xc0, 0x7f]),
-    ];
-    for (place, bytes) in invalid {
+    let floats = (24..64).step_by(4).flat_map(|place| [(place, &[0, 0, 0x80, 0xff][..]), (place, &[0, 0, 0xc0, 0x7f])]);
+    let last: [(usize, &[u8]); 4] = [(64, &[2]), (65, &[1]), (66, &[1]), (67, &[1])];
+    for (place, bytes) in INVALID.into_iter().chain(floats).chain(last) {
         let state = state_with(place, bytes);
         let (answer, after, _) = run_from(state, &Script::of(&song()).unwrap());
         assert_eq!(answer, Err(Stop { refusal: Refusal::Argument, events: 0, samples: 0 }), "byte {place}");
@@ -462,13 +474,118 @@ fn a_stop_says_what_was_done() {
 
 #[test]
 fn a_state_is_its_bytes() {
-    let state = run_from(State::start(), &Script::of(&song()[..12]).unwrap()).1;
+    let state = after(State::start(), &song()[..12]);
     let again = State::from_bytes(*state.as_bytes());
     assert_eq!(again, state);
     assert_ne!(again, State::start());
     assert_eq!(State::default().as_bytes(), &[0; STATE_BYTES]);
     assert_eq!((state.cutoff(), state.resonance(), state.routing(), state.mode(), state.volume()), (1_605, 15, 3, 1, 15));
     assert!(state.low() != 0.0 && state.source_energy() > 0.0);
+}
+
+/// A state with something in each of the last 44 bytes that may have it: ten floats, and a pulse's gate that rose.
+fn charged() -> State {
+    let mut state = State::start();
+    for (number, place) in (24..64).step_by(4).enumerate() {
+        state = with(state, place, &(0.5 - number as f32).to_le_bytes());
+    }
+    state.mark_pure_pulse_gate_rise();
+    state
+}
+
+/// The volume's charges and its conductance, as bits: the sign of zero counts.
+fn volume_bits(state: State) -> [u32; 3] {
+    let Charges { volume_fast, volume_slow, .. } = state.charges();
+    [volume_fast, volume_slow, state.conductance()].map(f32::to_bits)
+}
+
+#[test]
+fn a_state_has_its_fields() {
+    let mut state = charged();
+    let charges = Charges { volume_fast: 0.5, volume_slow: -0.5, bypass_attack: -1.5, pulse_gate_fast: -2.5, pulse_gate_slow: -3.5 };
+    assert_eq!((state.charges(), state.conductance(), state.bypass_activity()), (charges, -4.5, -5.5));
+    assert_eq!((state.blends(), state.pulse_pending()), ([-6.5, -7.5, -8.5], true));
+    state.mark_pure_saw_gate_rise(1);
+    assert_eq!(state.blends(), [-6.5, 0.0, -8.5]);
+    assert_eq!(state, with(charged(), 56, &[0; 4]));
+    assert!(!State::start().pulse_pending());
+}
+
+/// A mode write steps from the conductance in the block to the volume's own, and charges the output node by the step.
+#[test]
+fn a_mode_write_charges() {
+    let [silent, full] = [0x00, 0x0f].map(|value| after(State::start(), &[Event::Mode(value)]));
+    assert_eq!(silent, State::start());
+    assert_eq!(full.charges(), Charges { volume_fast: -3152.0623, volume_slow: -2777.7222, ..Charges::default() });
+    assert_eq!(volume_bits(after(full, &[Event::Mode(0)])), [0; 3]);
+
+    // At the same volume the step is +0.0: the charges stay, but for -0.0, which becomes +0.0.
+    assert_eq!(after(full, &[Event::Mode(0x0f)]), full);
+    let negative = (-0.0_f32).to_le_bytes();
+    let state = with(with(full, 24, &negative), 28, &negative);
+    assert_eq!(volume_bits(after(state, &[Event::Mode(0x0f)])), [0, 0, full.conductance().to_bits()]);
+
+    // The step is from the block's conductance, whatever its volume: here volume 15 at the conductance of 0.
+    assert_eq!(after(state_with(10, &[15]), &[Event::Mode(0x0f)]), full);
+}
+
+/// The least conductance, of either sign, from which a write of volume 0 would leave an infinite charge. The float before it goes through.
+#[test]
+fn a_charge_that_is_not_finite_is_refused_with_6() {
+    for least in [1.6549131e36_f32, -1.6549131e36] {
+        let before = f32::from_bits(least.to_bits() - 1);
+        assert!(after(state_with(44, &before.to_le_bytes()), &[Event::Mode(0)]).charges().volume_fast.is_finite());
+        let state = state_with(44, &least.to_le_bytes());
+        let (answer, left, output) = run_from(state, &Script::of(&[sample(0.0, 0.0), Event::Mode(0), sample(0.0, 0.0)]).unwrap());
+        assert_eq!(answer, Err(Stop { refusal: Refusal::Domain, events: 1, samples: 1 }));
+        assert_eq!((left, &output[16..]), (state, &[0xaa; 16][..]));
+    }
+}
+
+/// Only a mode write and a reset change the last 44 bytes.
+#[test]
+fn other_events_keep_the_charges() {
+    let mut events = song();
+    events.retain(|event| !matches!(event, Event::Mode(_) | Event::Reset));
+    let state = after(charged(), &events);
+    assert_eq!(state.as_bytes()[24..], charged().as_bytes()[24..]);
+    assert_ne!(state.as_bytes()[..24], charged().as_bytes()[..24]);
+    // Of these a mode write changes the volume's.
+    let written = after(state, &[Event::Mode(0x1f)]);
+    let kept = |state: State| [&state.as_bytes()[32..44], &state.as_bytes()[48..]].concat();
+    assert_eq!(kept(written), kept(state));
+}
+
+/// No event reads the decays.
+#[test]
+fn other_decays_give_the_same_bytes() {
+    let script = Script::of(&song()).unwrap();
+    let (mut state, mut output) = (charged(), vec![0xaa; script.output_bytes()]);
+    let answer = run(&bundle(), curves(), &mut state, &Decays::new([0.0; 6]).unwrap(), &script, &mut output);
+    assert_eq!((answer, state, output), run_from(charged(), &script));
+}
+
+/// The first 24 bytes of a block, widened, have no charges, and the conductance that a write of their volume leaves.
+#[test]
+fn a_block_of_24_bytes_is_widened() {
+    for volume in 0..16 {
+        let state = after(charged(), &[Event::Routing(0xf3), Event::CutoffLow(5), sample(0.9, 0.1), Event::Mode(0x50 | volume)]);
+        let wide = State::widen(&state.as_bytes()[..NARROW_STATE_BYTES]).unwrap();
+        let conductance = state.conductance().to_le_bytes();
+        assert_eq!(wide.as_bytes()[..], [&state.as_bytes()[..24], &[0; 20], &conductance, &[0; 20]].concat());
+        // The next write at this volume then charges nothing.
+        assert_eq!(after(wide, &[Event::Mode(0x50 | volume)]), wide);
+    }
+}
+
+#[test]
+fn an_invalid_block_is_not_widened() {
+    for (place, bytes) in INVALID {
+        assert_eq!(State::widen(&state_with(place, bytes).as_bytes()[..NARROW_STATE_BYTES]), Err(Refusal::Argument), "byte {place}");
+    }
+    for length in [0, 23, 25, STATE_BYTES] {
+        assert_eq!(State::widen(&vec![0; length]), Err(Refusal::Argument), "{length} bytes");
+    }
 }
 
 /// Number and bits of a point, zeros beside a refusal.
@@ -502,11 +619,11 @@ fn points_are_those_of_the_vectors() {
         };
         assert_eq!(point_words(ours), told, "transfer {transfer}, {first}, {second} at {input}");
     }
-    for record in records::<12>("vectors_surface", "sample_point") {
-        let block: Vec<u8> = record[..6].iter().flat_map(|word| word.to_le_bytes()).collect();
+    for record in records::<23>("vectors_surface", "sample_point") {
+        let block: Vec<u8> = record[..17].iter().flat_map(|word| word.to_le_bytes()).collect();
         let state = State::from_bytes(block.try_into().unwrap());
-        let [sum, energy] = [record[6], record[7]].map(f32::from_bits);
-        assert_eq!(point_words(sample_point(&bundle, curves, &state, sum, energy)), record[8..], "{record:x?}");
+        let [sum, energy] = [record[17], record[18]].map(f32::from_bits);
+        assert_eq!(point_words(sample_point(&bundle, curves, &state, sum, energy)), record[19..], "{record:x?}");
     }
 }
 
@@ -529,13 +646,12 @@ fn points_refuse_by_the_table() {
     damaged[4..8].copy_from_slice(&f32::INFINITY.to_le_bytes());
     let damaged = Curves::from_bytes(damaged);
     assert_eq!(sample_curve(&damaged, 0, 0.0).err(), Some(Refusal::Entry { buffer: Buffer::Curves, place: 4 }));
-    let mut block = *state.as_bytes();
-    block[11] = 1;
-    assert_eq!(sample_point(&bundle, curves(), &State::from_bytes(block), f32::NAN, 0.0).err(), Some(Refusal::Argument));
-    let mut block = *state.as_bytes();
-    block[12..16].copy_from_slice(&3.0e38_f32.to_le_bytes());
-    assert_eq!(sample_point(&bundle, curves(), &State::from_bytes(block), 0.0, f32::NAN).err(), Some(Refusal::InputNotFinite));
-    assert_eq!(sample_point(&bundle, curves(), &State::from_bytes(block), 0.0, 0.0).err(), Some(Refusal::Domain));
+    for place in [11, 67] {
+        assert_eq!(sample_point(&bundle, curves(), &state_with(place, &[1]), f32::NAN, 0.0).err(), Some(Refusal::Argument));
+    }
+    let large = state_with(12, &3.0e38_f32.to_le_bytes());
+    assert_eq!(sample_point(&bundle, curves(), &large, 0.0, f32::NAN).err(), Some(Refusal::InputNotFinite));
+    assert_eq!(sample_point(&bundle, curves(), &large, 0.0, 0.0).err(), Some(Refusal::Domain));
 }
 
 /// Number and bits of the sums, zeros beside a refusal.

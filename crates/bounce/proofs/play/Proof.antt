@@ -6,10 +6,10 @@ use Rattle.bounce.proofs.play.Statement.{statement}
 use Rattle.bounce.proofs.play.Tie as tie
 
 abbrev Inv-loop : tie.InvT-loop
-Inv-loop bundle curves block₀ output i₀ i-end block i = (length block ≡ length block₀) × (i ≤ max i-end 4)
+Inv-loop bundle curves decays block₀ output i₀ i-end block i = (length block ≡ length block₀) × (i ≤ max i-end 5)
 
 abbrev μ-loop : tie.MeasureT-loop
-μ-loop bundle curves block₀ output i₀ i-end block i = i-end - i
+μ-loop bundle curves decays block₀ output i₀ i-end block i = i-end - i
 
 arg-count-requires : tie.Need-arg-count-requires Inv-loop μ-loop
 arg-count-requires c κs = tt

@@ -12,8 +12,8 @@ script-line-requires c κs = search needs
 report-requires : tie.Need-report-requires
 report-requires c κs = search needs
 
-mul-t18 : tie.Need-mul-t18
-mul-t18 c = record { fits = samples-fit _ _ _ _ (c .before .before .before .before .before .before .before .before .before .before .run .ensures .0) }
+mul-t19 : tie.Need-mul-t19
+mul-t19 c = record { fits = samples-fit _ _ _ _ (c .before .before .before .before .before .before .before .before .before .before .run .ensures .0) }
 
 same-length : tie.Need-same-length
 same-length c = search needs
@@ -37,7 +37,7 @@ step-spec =
     run-requires
     script-line-requires
     report-requires
-    mul-t18
+    mul-t19
     same-length
     same-length-2
     same-length-3

@@ -1,4 +1,4 @@
-use Rattle.filter.specs.Lent.{judgeLentOf}
+use Rattle.filter.specs.Lent.{judgeTablesOf}
 use borrow.Author.Needs.{needs}
 use Rattle.filter.proofs.judge_lent.Statement.{statement}
 use Rattle.filter.proofs.judge_lent.Tie as tie
@@ -13,7 +13,7 @@ first-requires : tie.Need-first-requires
 first-requires c κs = search needs
 
 returns : tie.Need-returns
-unfolding judgeLentOf
+unfolding judgeTablesOf
 returns c = simp (c .first .ensures, c .before .judge-length .ensures, c .before .before .check .ensures)
 
 pub judge-lent-spec : {M : Type 1} → statement M

@@ -6,10 +6,10 @@ use Rattle.probe_lists.proofs.probe_cores.Statement.{statement}
 use Rattle.probe_lists.proofs.probe_cores.Tie as tie
 
 abbrev Inv-loop : tie.InvT-loop
-Inv-loop bundle curves block script out₀ fed₀ count i₀ out fed i = (i ≤ count) × (count ≤ 65536) × (length out ≡ length out₀)
+Inv-loop bundle curves decays block script out₀ fed₀ count i₀ out fed i = (i ≤ count) × (count ≤ 65536) × (length out ≡ length out₀)
 
 abbrev μ-loop : tie.MeasureT-loop
-μ-loop bundle curves block script out₀ fed₀ count i₀ out fed i = count - i
+μ-loop bundle curves decays block script out₀ fed₀ count i₀ out fed i = count - i
 
 state-or-requires : tie.Need-state-or-requires Inv-loop μ-loop
 state-or-requires c κs = search needs

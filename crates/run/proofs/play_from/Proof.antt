@@ -1,7 +1,7 @@
 use mathlib.Core.Path.{ap, _∙_}
 use denote.Ref.{now}
 use Rattle.refresh.specs.declared.Judged.{Judged}
-use Rattle.filter.specs.Lent.{lentOf}
+use Rattle.filter.specs.Lent.{lentAll}
 use Rattle.run.specs.Rows.{playEnd}
 use Rattle.run.specs.Parts.{playPut}
 use Rattle.run.proofs.Whole.{start-stops, start-plays, start-ahead, start-room, start-from}
@@ -25,18 +25,18 @@ play-requires : tie.Need-play-requires
 play-requires c κs =
     let t = c .before .before in
     let j = t .before .before .judge-controls .ensures in
-    let q = t .before .before .before .before .before .before .before in
+    let q = t .before .before .before .before .before .before .before .before in
     let z = q .pre in
-    let lent = lentOf (now (q .args .bundle)) (now (q .args .curves)) in
+    let lent = lentAll (now (q .args .bundle)) (now (q .args .curves)) (now (q .args .decays)) in
     let is = ap (λ (j : Judged). j .answer) j in
     let done = t .before .is-done .ensures in
     let count = c .before .u32-at .ensures in (
-      start-ahead lent _ _ (z .1) is done (t .if1 .taken) count (now (q .args .output)) (z .2),
+      start-ahead lent _ _ (z .0) is done (t .if1 .taken) count (now (q .args .output)) (z .1),
       (
-        start-room lent _ _ (z .1) is done (t .if1 .taken) count (now (q .args .output)) (z .2),
+        start-room lent _ _ (z .0) is done (t .if1 .taken) count (now (q .args .output)) (z .1),
         (
-          start-from lent _ _ (z .1) is done (t .if1 .taken) count (z .0),
-          record { valid = z .1; gained = ap (λ (j : Judged). j .gain) j },
+          start-from lent _ _ (z .0) is done (t .if1 .taken) count,
+          record { valid = z .0; gained = ap (λ (j : Judged). j .gain) j },
         ),
       ),
     )
@@ -47,16 +47,16 @@ same-length c = search needs
 returns : tie.Need-returns
 returns c =
     let t = c .before .before .before .before .before in
-    let z = t .before .before .before .before .before .before .before in
+    let z = t .before .before .before .before .before .before .before .before in
     let p = c .before .before .play .ensures in
-    let plays = start-plays _ _ _ (z .pre .1) (ap (λ (j : Judged). j .answer) (t .before .before .judge-controls .ensures)) (t .before .is-done .ensures) (t .if1 .taken)
+    let plays = start-plays _ _ _ (z .pre .0) (ap (λ (j : Judged). j .answer) (t .before .before .judge-controls .ensures)) (t .before .is-done .ensures) (t .if1 .taken)
     (c .before .before .before .before .u32-at .ensures) in
     (p .0 ∙ ap (playEnd 0 0) plays, p .1 ∙ ap (playPut (now (z .args .output))) plays)
 
 returns-2 : tie.Need-returns-2
 returns-2 c =
-    let z = c .before .before .before .before .before .before .before in
-    start-stops _ _ _ (z .pre .1) (ap (λ (j : Judged). j .answer) (c .before .before .judge-controls .ensures)) (c .before .is-done .ensures) (c .if1 .left) _
+    let z = c .before .before .before .before .before .before .before .before in
+    start-stops _ _ _ (z .pre .0) (ap (λ (j : Judged). j .answer) (c .before .before .judge-controls .ensures)) (c .before .is-done .ensures) (c .if1 .left) _
 
 pub play-from-spec : {M : Type 1} → statement M
 play-from-spec =

@@ -3,7 +3,6 @@ use native.Mathlib.Omega.{arith}
 use mathlib.Core.Path.{sym, _∙_}
 use borrow.Author.Needs.{needs}
 use Rattle.sample.proofs.Finite.{outputs-finite}
-use Rattle.filter.specs.Lent.{lentOf}
 use Rattle.run.specs.Parts.{cacheOfParts}
 use Rattle.run.proofs.Rows.{parts-sample, Sofar, sofar-start, unreadable, other, refused, turned, at-end}
 use Rattle.run.proofs.play_samples.Statement.{statement}
@@ -12,7 +11,7 @@ use Rattle.run.proofs.play_samples.Tie as tie
 abbrev Inv-loop : tie.InvT-loop
 Inv-loop bundle curves gain script start count output₀ before input-drives feedback-drives parts topology gains core rest slot registers
     integrator₀ earlier₀ samples₀ i₀ output integrator earlier samples i =
-    Sofar (lentOf bundle curves) (parts .topology) (cacheOfParts parts) (registers .mode) script count start before output₀ integrator₀ output integrator samples i
+    Sofar bundle curves (parts .topology) (cacheOfParts parts) (registers .mode) script count start before output₀ integrator₀ output integrator samples i
 
 abbrev μ-loop : tie.MeasureT-loop
 μ-loop bundle curves gain script start count output₀ before input-drives feedback-drives parts topology gains core rest slot registers
@@ -35,7 +34,7 @@ summer-slot-requires c κs = search needs
 loop-holds : tie.Need-loop-holds Inv-loop μ-loop
 loop-holds c =
     let z = c .before .before .before .before .before .before .before .before .before .before .before .before .before .pre in
-    sofar-start _ _ _ _ _ _ _ _ _ _ (z .0 .within) (z .1 .0 .fewer) (z .0 .readable) (z .1 .0 .room)
+    sofar-start _ _ _ _ _ _ _ _ _ _ _ (z .0 .within) (z .1 .0 .fewer) (z .0 .readable) (z .1 .0 .room)
 
 mul-event-at : tie.Need-mul-event-at Inv-loop μ-loop
 mul-event-at c = search needs
@@ -58,7 +57,7 @@ same-length c = search needs
 returns : tie.Need-returns Inv-loop μ-loop
 returns c =
     let e = c .before .before in
-    absurd (unreadable _ _ _ _ _ _ _ _ _ _ _ _ _ _ (e .before .before .loop .inv) (e .before .loop-test .taken) (sym (e .event-at .ensures) ∙ c .enum-told .given .1))
+    absurd (unreadable _ _ _ _ _ _ _ _ _ _ _ _ _ _ _ (e .before .before .loop .inv) (e .before .loop-test .taken) (sym (e .event-at .ensures) ∙ c .enum-told .given .1))
 
 asks-requires : tie.Need-asks-requires Inv-loop μ-loop
 asks-requires c κs = search needs
@@ -83,7 +82,7 @@ put-outputs-requires c κs =
     let s = o .before .before in
     let l = s .before .before .before .before .before .before .before .before .before .before .before in
     outputs-finite _ _ _ _ _ _ _ _ _ _ _
-    (s .sample-from-parts .ensures ∙ parts-sample _ _ (l .before .before .before .before .before .before .before .parts-of .ensures) _
+    (s .sample-from-parts .ensures ∙ parts-sample _ _ _ (l .before .before .before .before .before .before .before .parts-of .ensures) _
     (l .before .before .before .before .before .before .before .before .before .input-drives .ensures) (l .before .before .before .before .before .before .before .before .feedback-drives .ensures) (l .before .before .before .summer-slot .ensures) _ _ _)
     (o .outputs .given .1)
 
@@ -116,9 +115,9 @@ loop-again c =
     let e = v .before .before in
     let l = e .before .before in
     rw (c .before .before .put-outputs .ensures)
-    (turned _ _ _ _ _ _ _ _ _ _ _ _ _ _ (l .loop .inv) (e .before .loop-test .taken) (v .event .given .0 .0) (sym (e .event-at .ensures) ∙ v .event .given .1)
+    (turned _ _ _ _ _ _ _ _ _ _ _ _ _ _ _ (l .loop .inv) (e .before .loop-test .taken) (v .event .given .0 .0) (sym (e .event-at .ensures) ∙ v .event .given .1)
     (s .before .before .before .before .before .asks .ensures) (s .before .before .before .before .if1 .taken) _ _
-    (s .sample-from-parts .ensures ∙ parts-sample _ _ (l .before .before .before .before .before .before .before .parts-of .ensures) _
+    (s .sample-from-parts .ensures ∙ parts-sample _ _ _ (l .before .before .before .before .before .before .before .parts-of .ensures) _
     (l .before .before .before .before .before .before .before .before .before .input-drives .ensures) (l .before .before .before .before .before .before .before .before .feedback-drives .ensures) (l .before .before .before .summer-slot .ensures) _ _ _)
     (o .outputs .given .1))
 
@@ -135,9 +134,9 @@ returns-2 c =
     let e = v .before .before in
     let l = e .before .before in
     rw (← l .before .before .before .before .before .before .before .parts-of .ensures)
-    (refused _ _ _ _ _ _ _ _ _ _ _ _ _ _ (l .loop .inv) (e .before .loop-test .taken) (v .event .given .0 .0) (sym (e .event-at .ensures) ∙ v .event .given .1)
+    (refused _ _ _ _ _ _ _ _ _ _ _ _ _ _ _ (l .loop .inv) (e .before .loop-test .taken) (v .event .given .0 .0) (sym (e .event-at .ensures) ∙ v .event .given .1)
     (s .before .before .before .before .before .asks .ensures) (s .before .before .before .before .if1 .taken) _
-    (s .sample-from-parts .ensures ∙ parts-sample _ _ (l .before .before .before .before .before .before .before .parts-of .ensures) _
+    (s .sample-from-parts .ensures ∙ parts-sample _ _ _ (l .before .before .before .before .before .before .before .parts-of .ensures) _
     (l .before .before .before .before .before .before .before .before .before .input-drives .ensures) (l .before .before .before .before .before .before .before .before .feedback-drives .ensures) (l .before .before .before .summer-slot .ensures) _ _ _)
     (c .before .answer .given .1))
 
@@ -149,7 +148,7 @@ returns-3 c =
     let v = c .before .before .before in
     let e = v .before .before in
     rw (← e .before .before .before .before .before .before .before .before .before .parts-of .ensures)
-    (other _ _ _ _ _ _ _ _ _ _ _ _ _ _ (e .before .before .loop .inv) (e .before .loop-test .taken) (v .event .given .0 .0)
+    (other _ _ _ _ _ _ _ _ _ _ _ _ _ _ _ (e .before .before .loop .inv) (e .before .loop-test .taken) (v .event .given .0 .0)
     (sym (e .event-at .ensures) ∙ v .event .given .1) (c .before .asks .ensures) (c .if1 .left))
 
 same-length-4 : tie.Need-same-length-4 Inv-loop μ-loop
@@ -157,7 +156,7 @@ same-length-4 c = search needs
 
 returns-4 : tie.Need-returns-4 Inv-loop μ-loop
 returns-4 c =
-    rw (← c .before .before .before .before .before .before .before .before .parts-of .ensures) (at-end _ _ _ _ _ _ _ _ _ _ _ _ _ _ (c .before .loop .inv) (c .loop-test .left))
+    rw (← c .before .before .before .before .before .before .before .before .parts-of .ensures) (at-end _ _ _ _ _ _ _ _ _ _ _ _ _ _ _ (c .before .loop .inv) (c .loop-test .left))
 
 pub play-samples-spec : {M : Type 1} → statement M
 play-samples-spec =

@@ -35,11 +35,17 @@ returns c =
     rw (c .turned-back .ensures)
     (invalid-refused _ _ _ _ (c .before .before .before .before .before .decode .ensures) (c .before .before .enum-told .given .1) (c .before .first .ensures ∙ ap (λ (l : Answer). firstOf l Argument) lent))
 
+judge-decays-requires : tie.Need-judge-decays-requires
+judge-decays-requires c κs = search needs
+
 judge-script-requires : tie.Need-judge-script-requires
 judge-script-requires c κs = search needs
 
 first-requires-2 : tie.Need-first-requires-2
 first-requires-2 c κs = search needs
+
+first-requires-3 : tie.Need-first-requires-3
+first-requires-3 c κs = search needs
 
 is-done-requires : tie.Need-is-done-requires
 is-done-requires c κs = search needs
@@ -47,9 +53,10 @@ is-done-requires c κs = search needs
 play-from-requires : tie.Need-play-from-requires
 play-from-requires c κs =
     let j = c .before .before .before in
-    let v = j .before .before .before in
+    let later = j .before in
+    let v = later .before .before .before .before in
     let d = v .before .before in
-    let is = simp (d .judge-lent .ensures, j .before .judge-script .ensures) at (j .first2 .ensures) in
+    let is = simp (d .judge-lent .ensures, later .first2 .ensures, later .before .judge-script .ensures, later .before .before .judge-decays .ensures) at (j .first3 .ensures) in
     valid-fine _ _ _ _ (d .before .decode .ensures) (v .decoded .given .1) _ is (done-is _ (sym (c .before .before .is-done .ensures) ∙ c .before .if1 .taken))
 
 encode-requires : tie.Need-encode-requires
@@ -65,9 +72,10 @@ returns-2 : tie.Need-returns-2
 returns-2 c =
     let p = c .before .before .before .before .before .before .before in
     let j = p .before .before .before .before in
-    let v = j .before .before .before in
+    let later = j .before in
+    let v = later .before .before .before .before in
     let d = v .before .before in
-    let is = simp (d .judge-lent .ensures, j .before .judge-script .ensures) at (j .first2 .ensures) in
+    let is = simp (d .judge-lent .ensures, later .first2 .ensures, later .before .judge-script .ensures, later .before .before .judge-decays .ensures) at (j .first3 .ensures) in
     let done = done-is _ (sym (p .before .before .before .is-done .ensures) ∙ p .before .before .if1 .taken) in
     valid-done _ _ _ _ (d .before .decode .ensures) (v .decoded .given .1) _ is done (p .play-from .ensures .0) (p .play-from .ensures .1) (c .before .before .encode .ensures)
 
@@ -80,9 +88,10 @@ same-length-4 c = search needs
 returns-3 : tie.Need-returns-3
 returns-3 c =
     let j = c .before .before .before in
-    let v = j .before .before .before in
+    let later = j .before in
+    let v = later .before .before .before .before in
     let d = v .before .before in
-    let is = simp (d .judge-lent .ensures, j .before .judge-script .ensures) at (j .first2 .ensures) in
+    let is = simp (d .judge-lent .ensures, later .first2 .ensures, later .before .judge-script .ensures, later .before .before .judge-decays .ensures) at (j .first3 .ensures) in
     rw (c .turned-back2 .ensures) (run-refused _ _ _ _ (valid-judged _ _ _ _ (d .before .decode .ensures) (v .decoded .given .1) _ is) (sym (c .before .before .is-done .ensures) ∙ c .before .if1 .left))
 
 pub run-spec : {M : Type 1} → statement M
@@ -97,8 +106,10 @@ run-spec =
     turned-back-requires
     same-length
     returns
+    judge-decays-requires
     judge-script-requires
     first-requires-2
+    first-requires-3
     is-done-requires
     play-from-requires
     encode-requires

@@ -18,15 +18,18 @@ slice-aggregate-sid-filter-run c = search needs
 slice-aggregate-sid-filter-run-2 : tie.Need-slice-aggregate-sid-filter-run-2
 slice-aggregate-sid-filter-run-2 c = search needs
 
+slice-aggregate-sid-filter-run-3 : tie.Need-slice-aggregate-sid-filter-run-3
+slice-aggregate-sid-filter-run-3 c = search needs
+
 sid-filter-run-requires : tie.Need-sid-filter-run-requires
 sid-filter-run-requires c κs = search needs
 
 returns : tie.Need-returns
 returns c =
     let z = c .before .before in
-    let a = z .before .before .before .before .before .before .before .before .before .before in
-    let copied = putAt-whole (replicate 24 0) (now (a .args .block)) (a .pre) in
-    rw (z .sid-filter-run .ensures .0, z .before .before .before .before .put .ensures, copied) refl
+    let a = z .before .before .before .before .before .before .before .before .before .before .before in
+    let copied = putAt-whole (replicate 68 0) (now (a .args .block)) (a .pre) in
+    rw (z .sid-filter-run .ensures .0, z .before .before .before .before .before .put .ensures, copied) refl
 
 pub tried-spec : {M : Type 1} → statement M
 tried-spec =
@@ -36,5 +39,6 @@ tried-spec =
     put-requires
     slice-aggregate-sid-filter-run
     slice-aggregate-sid-filter-run-2
+    slice-aggregate-sid-filter-run-3
     sid-filter-run-requires
     returns)

@@ -4,6 +4,9 @@
 //! short so that a bounce takes seconds: 492,624 samples each. A bar has 24 frames, and as in a player on the machine each frame writes
 //! the cutoff, low then high; six frames are a step, the shortest note. [`PARTS`] says what happens when.
 //!
+//! In one bar the volume plays a drum as well, by 396 writes of register 24 a step: a sample of four bits each, as digi tunes do. They change no
+//! sample of the filter. What each step of the volume charges stands in the state.
+//!
 //! Every event follows from its bar, frame and sample alone, so a bar is the same bar wherever a bounce begins.
 #![allow(dead_code)] // Each example uses some of it.
 use sid_filter::{voice_level, Event, CLOCK_HZ, MODE_REST, VOICE_REST};
@@ -19,6 +22,11 @@ const FRAME: u32 = BAR / FRAMES;
 const STEP_FRAMES: u32 = 6;
 const STEP: u32 = STEP_FRAMES * FRAME;
 const STEPS: usize = 4;
+/// The bar in which the volume plays a drum, its writes, and the samples from one to the next: 3,168 writes a second.
+pub const DIGI_BAR: u32 = 46;
+pub const DIGI_WRITES: u32 = BAR / DIGI;
+const DIGI: u32 = 311;
+const _: () = assert!(FRAME % DIGI == 0);
 
 /// A part of the song.
 pub struct Part {
@@ -41,7 +49,7 @@ const fn part(first: u32, routing: u8, mode: u8, cutoff: (u32, u32), plays: u8, 
 }
 
 /// The song.
-pub const PARTS: [Part; 14] = [
+pub const PARTS: [Part; 15] = [
     part(1, 0x87, 0x1f, (150, 1000), 0b001, "the bass alone, a low-pass that opens"),
     part(5, 0xc3, 0x1f, (1000, 400), 0b011, "the arpeggio joins, the low-pass closes"),
     part(9, 0xc3, 0x1f, (400, 1200), 0b111, "the lead joins, beside the filter"),
@@ -53,7 +61,8 @@ pub const PARTS: [Part; 14] = [
     part(32, 0xa7, 0x5f, (500, 1300), 0b111, "low and high together, a notch"),
     part(38, 0xf3, 0x1f, (500, 1300), 0b111, "a low-pass at full resonance, the lead beside it"),
     part(42, 0xf1, 0x1f, (1300, 1000), 0b111, "voice 2 out of the filter"),
-    part(44, 0xf3, 0x1f, (1000, 600), 0b111, "voice 2 back in the filter"),
+    part(44, 0xf3, 0x1f, (1000, 800), 0b111, "voice 2 back in the filter"),
+    part(DIGI_BAR, 0xf3, 0x1f, (800, 600), 0b111, "the volume plays a drum"),
     part(47, 0xf3, 0x1f, (600, 200), 0b011, "voice 3 muted, the low-pass closes"),
     part(48, 0xf3, 0x1f, (200, 200), 0b000, "all muted"),
 ];
@@ -78,7 +87,8 @@ pub struct Tick {
 pub fn bar(number: u32, desk: Desk) -> impl Iterator<Item = Tick> {
     (0..FRAMES).flat_map(move |frame| {
         let frame = Frame::new(number, frame, desk);
-        frame.writes().into_iter().flatten().chain((0..FRAME).map(move |sample| frame.sample(sample)))
+        let clocks = (0..FRAME).flat_map(move |sample| [frame.digi(sample), Some(frame.sample(sample))]);
+        frame.writes().into_iter().chain(clocks).flatten()
     })
 }
 
@@ -98,6 +108,8 @@ fn part_of(bar: u32) -> (&'static Part, u32) {
 struct Frame {
     /// Whether the routing and the mode are written: in a bar's first frame.
     opens: bool,
+    /// How many samples before the frame the drum began, in the bar that has it.
+    drum: Option<u32>,
     cutoff: u32,
     routing: u8,
     mode: u8,
@@ -116,6 +128,7 @@ impl Frame {
         let voice = |index: u8, tone: Tone| if plays & 1 << index == 0 { tone.muted() } else { tone };
         Frame {
             opens: frame == 0,
+            drum: (bar == DIGI_BAR).then_some(frame % STEP_FRAMES * FRAME),
             cutoff: swept + accent,
             routing: part.routing & !desk.out,
             mode: part.mode,
@@ -126,13 +139,18 @@ impl Frame {
 
     /// The register writes at its begin.
     fn writes(&self) -> [Option<Tick>; 4] {
-        let write = |event| Tick { event, beside: 0.0 };
         [
             self.opens.then_some(write(Event::Routing(self.routing))),
             self.opens.then_some(write(Event::Mode(self.mode))),
             Some(write(Event::CutoffLow((self.cutoff % 8) as u8))),
             Some(write(Event::CutoffHigh((self.cutoff / 8) as u8))),
         ]
+    }
+
+    /// The write before one of its samples by which the volume plays the drum, where there is one.
+    fn digi(&self, sample: u32) -> Option<Tick> {
+        let drum = self.drum.filter(|_| sample % DIGI == 0)?;
+        Some(write(Event::Mode(self.mode & 0xf0 | drum_volume(drum + sample))))
     }
 
     /// One of its samples: each voice goes into the filter's sum or beside it.
@@ -150,6 +168,19 @@ impl Frame {
         }
         Tick { event: Event::Sample { input_sum, source_energy }, beside }
     }
+}
+
+/// A register write, beside which nothing sounds.
+fn write(event: Event) -> Tick {
+    Tick { event, beside: 0.0 }
+}
+
+/// The drum of a step in four bits: a triangle whose pitch falls from 240 Hz to 60 Hz, and whose swing goes from all to nothing.
+fn drum_volume(at: u32) -> u8 {
+    let at = at as f32 / STEP as f32;
+    let phase = 30.0 * at - 11.25 * at * at;
+    let triangle = 1.0 - 4.0 * (phase.fract() - 0.5).abs();
+    (7.5 + 7.5 * (1.0 - at) * triangle).round() as u8
 }
 
 #[derive(Clone, Copy)]

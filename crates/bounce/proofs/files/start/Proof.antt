@@ -13,7 +13,7 @@ slice-relend-prefix-encode : tie.Need-slice-relend-prefix-encode
 slice-relend-prefix-encode c = search needs
 
 slice-aggregate-encode : tie.Need-slice-aggregate-encode
-slice-aggregate-encode c = sym (length-take-le 24 (now (c .before .before .before .args .block)) (c .before .before .before .pre))
+slice-aggregate-encode c = sym (length-take-le 68 (now (c .before .before .before .args .block)) (c .before .before .before .pre))
 
 encode-requires : tie.Need-encode-requires
 encode-requires c κs = search needs

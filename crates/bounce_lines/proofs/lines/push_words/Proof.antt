@@ -114,6 +114,15 @@ slice-aggregate-push-9 c = search needs
 push-requires-9 : tie.Need-push-requires-9
 push-requires-9 c κs = search needs
 
+enum-told-12 : tie.Need-enum-told-12
+enum-told-12 c = search needs
+
+slice-aggregate-push-10 : tie.Need-slice-aggregate-push-10
+slice-aggregate-push-10 c = search needs
+
+push-requires-10 : tie.Need-push-requires-10
+push-requires-10 c κs = search needs
+
 same-length : tie.Need-same-length
 same-length c = search needs
 
@@ -202,6 +211,13 @@ returns-12 : tie.Need-returns-12
 unfolding wordsOf
 returns-12 c = (c .before .before .push9 .ensures .0, rw (c .before .before .before .before .before .enum-told11 .given .1) (c .before .before .push9 .ensures .1))
 
+same-length-13 : tie.Need-same-length-13
+same-length-13 c = search needs
+
+returns-13 : tie.Need-returns-13
+unfolding wordsOf
+returns-13 c = (c .before .before .push10 .ensures .0, rw (c .before .before .before .before .before .enum-told12 .given .1) (c .before .before .push10 .ensures .1))
+
 pub push-words-spec : {M : Type 1} → statement M
 push-words-spec =
     tie.close
@@ -243,6 +259,9 @@ push-words-spec =
     enum-told-11
     slice-aggregate-push-9
     push-requires-9
+    enum-told-12
+    slice-aggregate-push-10
+    push-requires-10
     same-length
     returns
     same-length-2
@@ -266,4 +285,6 @@ push-words-spec =
     same-length-11
     returns-11
     same-length-12
-    returns-12)
+    returns-12
+    same-length-13
+    returns-13)

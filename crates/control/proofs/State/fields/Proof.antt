@@ -1,62 +1,21 @@
-use mir.Syntax.{w16}
-use mir.ValLaws.{toZ-ofZ}
 use Rattle.control.specs.Block.{fieldsOf}
 use borrow.Author.Needs.{needs}
 use Rattle.control.proofs.State.fields.Statement.{statement}
 use Rattle.control.proofs.State.fields.Tie as tie
 
-u16-at-requires : tie.Need-u16-at-requires
-u16-at-requires c κs = search needs
+fields-requires : tie.Need-fields-requires
+fields-requires c κs = search needs
 
-i16-at-requires : tie.Need-i16-at-requires
-i16-at-requires c κs = search needs
+integrator-fields-requires : tie.Need-integrator-fields-requires
+integrator-fields-requires c κs = search needs
 
-u16-at-requires-2 : tie.Need-u16-at-requires-2
-u16-at-requires-2 c κs = search needs
-
-byte-at-requires : tie.Need-byte-at-requires
-byte-at-requires c κs = search needs
-
-byte-at-requires-2 : tie.Need-byte-at-requires-2
-byte-at-requires-2 c κs = search needs
-
-byte-at-requires-3 : tie.Need-byte-at-requires-3
-byte-at-requires-3 c κs = search needs
-
-byte-at-requires-4 : tie.Need-byte-at-requires-4
-byte-at-requires-4 c κs = search needs
-
-byte-at-requires-5 : tie.Need-byte-at-requires-5
-byte-at-requires-5 c κs = search needs
-
-f32-at-requires : tie.Need-f32-at-requires
-f32-at-requires c κs = search needs
-
-f32-at-requires-2 : tie.Need-f32-at-requires-2
-f32-at-requires-2 c κs = search needs
-
-f32-at-requires-3 : tie.Need-f32-at-requires-3
-f32-at-requires-3 c κs = search needs
+fields-requires-2 : tie.Need-fields-requires-2
+fields-requires-2 c κs = search needs
 
 returns : tie.Need-returns
 unfolding fieldsOf
-returns c =
-    let d = c .before .before .before .before .before .before .before .before .before .i16-at in
-    cc (toZ-ofZ w16 (d .result) (record { sfits = d .ok }))
+returns c = rw (c .before .before .fields .ensures, c .before .integrator-fields .ensures, c .fields2 .ensures)
 
 pub fields-spec : {M : Type 1} → statement M
 fields-spec =
-    tie.close
-    (tie.spec
-    u16-at-requires
-    i16-at-requires
-    u16-at-requires-2
-    byte-at-requires
-    byte-at-requires-2
-    byte-at-requires-3
-    byte-at-requires-4
-    byte-at-requires-5
-    f32-at-requires
-    f32-at-requires-2
-    f32-at-requires-3
-    returns)
+    tie.close (tie.spec fields-requires integrator-fields-requires fields-requires-2 returns)

@@ -9,9 +9,13 @@ is-valid-requires c κs = search needs
 finite-floats-requires : tie.Need-finite-floats-requires
 finite-floats-requires c κs = search needs
 
+is-finite-requires : tie.Need-is-finite-requires
+is-finite-requires c κs = search needs
+
 returns : tie.Need-returns
 unfolding validOf
-returns c = rw (c .before .is-valid .ensures, c .finite-floats .ensures)
+returns c = rw (c .before .before .is-valid .ensures, c .before .finite-floats .ensures, c .is-finite .ensures)
 
 pub is-valid-spec : {M : Type 1} → statement M
-is-valid-spec = tie.close (tie.spec is-valid-requires finite-floats-requires returns)
+is-valid-spec =
+    tie.close (tie.spec is-valid-requires finite-floats-requires is-finite-requires returns)

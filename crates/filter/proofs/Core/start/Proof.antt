@@ -12,14 +12,20 @@ is-valid-requires c κs = search needs
 unless-requires : tie.Need-unless-requires
 unless-requires c κs = search needs
 
+judge-decays-requires : tie.Need-judge-decays-requires
+judge-decays-requires c κs = search needs
+
 first-requires : tie.Need-first-requires
 first-requires c κs = search needs
+
+first-requires-2 : tie.Need-first-requires-2
+first-requires-2 c κs = search needs
 
 judge-lent-requires : tie.Need-judge-lent-requires
 judge-lent-requires c κs = search needs
 
-first-requires-2 : tie.Need-first-requires-2
-first-requires-2 c κs = search needs
+first-requires-3 : tie.Need-first-requires-3
+first-requires-3 c κs = search needs
 
 fresh-topology-requires : tie.Need-fresh-topology-requires
 fresh-topology-requires c κs = search needs
@@ -27,14 +33,18 @@ fresh-topology-requires c κs = search needs
 returns : tie.Need-returns
 unfolding plainStart
 returns c =
+    let decayed = c .before .before .before .before in
+    let valid = decayed .before .before in
     simp (
       c .fresh-topology .ensures,
-      c .before .first2 .ensures,
+      c .before .first3 .ensures,
       c .before .before .judge-lent .ensures,
-      c .before .before .before .first .ensures,
-      c .before .before .before .before .unless .ensures,
-      c .before .before .before .before .before .is-valid .ensures,
-      c .before .before .before .before .before .before .before .refresh .ensures,
+      c .before .before .before .first2 .ensures,
+      decayed .first .ensures,
+      decayed .before .judge-decays .ensures,
+      valid .unless .ensures,
+      valid .before .is-valid .ensures,
+      valid .before .before .before .refresh .ensures,
     )
 
 pub start-spec : {M : Type 1} → statement M
@@ -44,8 +54,10 @@ start-spec =
     refresh-requires
     is-valid-requires
     unless-requires
+    judge-decays-requires
     first-requires
-    judge-lent-requires
     first-requires-2
+    judge-lent-requires
+    first-requires-3
     fresh-topology-requires
     returns)
