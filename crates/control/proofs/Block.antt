@@ -52,8 +52,12 @@ module _ (s : State) (old : List ℕ) where
   unfolding encodeOf
   encode-not h = rw (ne-eqb _ _ h)
 
--- by the test that the code made
-pub decode-told : (b : List ℕ) (t : Bool) {s : State} {x y v : Bool} → s ≡ fieldsOf b → x ≡ tidyOf b → y ≡ tidyTransientsOf b → v ≡ validOf s
-    → (eqb (length b) 68 && x && y && v) ≡ t → cond t (Valid s) Invalid ≡ decodeOf b
+-- by the tests that the code made
+pub decode-told : (b : List ℕ) → length b ≡ 68 → (t : Bool) {s : State} {x y v : Bool} → s ≡ fieldsOf b → x ≡ tidyOf b → y ≡ tidyTransientsOf b → v ≡ validOf s
+    → (x && y && v) ≡ t → cond t (Valid s) Invalid ≡ decodeOf b
 unfolding decodeOf
-decode-told b t ps px py pv h = rw (← h, pv, px, py, ps)
+decode-told b long t ps px py pv h = rw (eq-eqb _ _ long, ← h, pv, px, py, ps)
+
+pub decode-not : (b : List ℕ) → (length b ≡ 68 → ⊥) → Invalid ≡ decodeOf b
+unfolding decodeOf
+decode-not b h = rw (ne-eqb _ _ h)

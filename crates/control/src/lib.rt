@@ -345,16 +345,15 @@ impl State {
         }
     }
 
-    // The state of a valid block.
+    // The state of a valid block. Its length is looked at first, so that no field needs a test of its own.
     pub fn decode(block: &[u8]) -> DecodedState
         ensures { λ r. ⌜ r ≡ decodeOf (now (block .entry)) ⌝ }
     {
+        if block.len() != State::BYTES {
+            return DecodedState::Invalid;
+        }
         let state = State::fields(block);
-        if (block.len() == State::BYTES)
-            & tidy(block)
-            & TransientState::tidy(block)
-            & state.is_valid()
-        {
+        if tidy(block) & TransientState::tidy(block) & state.is_valid() {
             return DecodedState::Valid(state);
         }
         DecodedState::Invalid

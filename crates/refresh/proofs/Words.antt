@@ -1,7 +1,7 @@
 -- The words of `refresh_filter_controls` and what follows from them. Assumes nothing.
 use Prim.Native.Nat.{ℕ, _+_, _*_}
-use mathlib.Core.Path.{_≡_, refl, sym, subst, _∙_}
-use mathlib.Core.Bool.{Bool, true, false, not, _&&_}
+use mathlib.Core.Path.{_≡_, refl, subst, _∙_}
+use mathlib.Core.Bool.{Bool, true, _&&_}
 use mathlib.Core.List.{List, [], _∷_, map}
 use native.Mathlib.Omega.{arith}
 use Rattle.answers.specs.declared.Answer.the-variants.{Done}
@@ -13,7 +13,7 @@ use Rattle.bundle.specs.Opening.{judgePlacesOf}
 use Rattle.bundle.proofs.Laws.{judge-append}
 use Rattle.controls.specs.Controls.{integratorGainOf}
 use Rattle.controls.specs.Judging.{judgeFilterOf}
-use Rattle.refresh.specs.Refresh.{gainsOf, judgeFilterIfOf}
+use Rattle.refresh.specs.Refresh.{gainsOf}
 
 -- Entries whose words are each usable are judged so.
 words-judged : (bundle places : List ℕ) → allUsable (map (u32At bundle) places) ≡ true → judgePlacesOf Bundle bundle places ≡ Done
@@ -86,7 +86,7 @@ module _ (bundle : List ℕ) (code resonance : ℕ) where
   abbrev each : Bool
   each = allUsable words && usableAt bundle (dampingPlace resonance) && usableAt bundle (sourceGainModulationPlace code)
 
-  all-usable : each ≡ true → judgeFilterOf bundle code resonance ≡ Done
+  pub all-usable : each ≡ true → judgeFilterOf bundle code resonance ≡ Done
   unfolding judgeFilterOf
   all-usable e =
       let m = both (allUsable words && usableAt bundle (dampingPlace resonance)) (usableAt bundle (sourceGainModulationPlace code)) e in
@@ -94,10 +94,3 @@ module _ (bundle : List ℕ) (code resonance : ℕ) where
       let g : judgePlacesOf Bundle bundle places ≡ Done = words-judged bundle places (subst (λ (w : List ℕ). allUsable w ≡ true) words-read (d .0)) in
       let o : judgePlacesOf Bundle bundle others ≡ Done = words-judged bundle others (simp (d .1, m .1)) in
       judge-append Bundle bundle places others ∙ simp (g, o)
-
-  pub judged-by-words : judgeFilterIfOf (not each) bundle code resonance ≡ judgeFilterOf bundle code resonance
-  judged-by-words = go each refl
-    where
-      go : (u : Bool) → each ≡ u → judgeFilterIfOf (not u) bundle code resonance ≡ judgeFilterOf bundle code resonance
-      go true e = sym (all-usable e)
-      go false e = refl

@@ -55,9 +55,6 @@ refreshCoreOf bundle cutoff resonance =
 abbrev pub gainsOf : List ℕ → List Float
 gainsOf w = sixteen (λ bin. ofBits binary32 (getD w bin 0))
 
-abbrev pub judgeFilterIfOf : Bool → List ℕ → ℕ → ℕ → Answer
-judgeFilterIfOf unusable bundle code resonance = cond unusable (judgeFilterOf bundle code resonance) Done
-
 -- ---- `refresh_mode_output_gain`
 
 -- the highpass loading, which mode 4 reads

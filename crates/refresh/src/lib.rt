@@ -161,27 +161,26 @@ fn judge_filter_places(bundle: &[u8], cutoff: u16, resonance: u8) -> Answer
     bundle::judge_places(Buffer::Bundle, bundle, &places)
 }
 
-// They are gone through one by one only where one of them is known to be unusable.
-fn judge_filter_if(unusable: bool, bundle: &[u8], cutoff: u16, resonance: u8) -> Answer
-    ensures { λ r. ⌜ r ≡ R.judgeFilterIfOf unusable (now (bundle .entry)) cutoff resonance ⌝ }
-{
-    if unusable {
-        return judge_filter_places(bundle, cutoff, resonance);
-    }
-    Answer::Done
-}
-
-// What it refuses, each entry judged by its word and no value made of it.
+// What it refuses, each entry judged by its word and no value made of it. In a bundle of its length no place needs a test of its own; the entries are gone through one by
+// one only in another, or where one of them is unusable.
 pub fn judge_filter(bundle: &[u8], cutoff: u16, resonance: u8) -> Answer
     ensures { λ r. ⌜ r ≡ judgeFilterOf (now (bundle .entry)) cutoff resonance ⌝ }
 {
-    let usable = wire::sixteen_usable(bundle, bundle::integrator_gain_place(cutoff, resonance, 0))
-        & wire::usable_at(bundle, bundle::damping_place(resonance) as usize)
-        & wire::usable_at(
+    if bundle.len() == bundle::BYTES {
+        let usable = wire::sixteen_usable(
             bundle,
-            bundle::source_gain_modulation_place(cutoff) as usize,
-        );
-    judge_filter_if(!usable, bundle, cutoff, resonance)
+            bundle::integrator_gain_place(cutoff, resonance, 0),
+        )
+            & wire::usable_at(bundle, bundle::damping_place(resonance) as usize)
+            & wire::usable_at(
+                bundle,
+                bundle::source_gain_modulation_place(cutoff) as usize,
+            );
+        if usable {
+            return Answer::Done;
+        }
+    }
+    judge_filter_places(bundle, cutoff, resonance)
 }
 
 // ---- refresh_mode_output_gain

@@ -366,8 +366,8 @@ fn single_mode_loading(m: u8, resonance: u8, cutoff: u16) -> f32
     1.0
 }
 
-// The output gain of a mode at a resonance and the effective cutoff. `loading` is the bundle's highpass entry for that cutoff.
-pub fn filter_mode_output_gain(mode: u8, resonance: u8, cutoff: u16, loading: f32) -> f32
+// All factors of a mode's output gain.
+fn product_of(mode: u8, resonance: u8, cutoff: u16, loading: f32) -> f32
     ensures { λ r. ⌜ r ≡ G.filterModeOutputGainOf mode resonance cutoff loading ⌝ }
 {
     let m = mode % 8;
@@ -378,6 +378,21 @@ pub fn filter_mode_output_gain(mode: u8, resonance: u8, cutoff: u16, loading: f3
         * highpass_loading(m, loading)
         * highpass_resonance_trim(m, resonance, p)
         * single_mode_loading(m, resonance, cutoff)
+}
+
+// The output gain of a mode at a resonance and the effective cutoff. `loading` is the bundle's highpass entry for that cutoff. Each mode is named, so that a factor which it
+// does not have, a 1, costs nothing; no output, and high with another, have none.
+pub fn filter_mode_output_gain(mode: u8, resonance: u8, cutoff: u16, loading: f32) -> f32
+    ensures { λ r. ⌜ r ≡ G.filterModeOutputGainOf mode resonance cutoff loading ⌝ }
+{
+    let m = mode % 8;
+    match m {
+        1 => product_of(1, resonance, cutoff, loading),
+        2 => product_of(2, resonance, cutoff, loading),
+        3 => product_of(3, resonance, cutoff, loading),
+        4 => product_of(4, resonance, cutoff, loading),
+        _ => 1.0,
+    }
 }
 
 // The symmetric loading of a single mode's output at the written cutoff: row 0 low, 1 band, 2 high.

@@ -32,7 +32,7 @@ use Rattle.script.proofs.Laws.{slicesFrom, all-next, events-next, all-stop, eve
 use Rattle.run.specs.declared.Asked.{Asked}
 use Rattle.run.specs.declared.Row.{Row}
 use Rattle.run.specs.Run.{outputBytes, sampleBytes}
-use Rattle.run.specs.Rows.{Samples, askedOf, noSamples, oneMore, rowOn, rowOf, rowEnd}
+use Rattle.run.specs.Rows.{Samples, askedOf, sampleFirst, noSamples, oneMore, rowOn, rowOf, rowEnd}
 use Rattle.run.proofs.Bytes.{length-outputs, length-output}
 
 -- ---- a sample on the parts
@@ -81,6 +81,11 @@ module _ (bundle curves : List ℕ) (t : MixingTopology) (c : ControlCache) (mod
     unfolding rowOf
     row-other a = rw a refl
 
+  row-none : (i : IntegratorState) (es : List Event) → sampleFirst es ≡ false → row i es ≡ noSamples Done i
+  unfolding rowOf
+  row-none i [] h = refl
+  row-none i (e ∷ es) h = rw h refl
+
   pub outputs-few : (i : IntegratorState) (es : List Event) → length (row i es .outputs) ≤ samplesOf es
   unfolding rowOf samplesOf
   outputs-few i [] = omega arith
@@ -125,6 +130,12 @@ module _ (bundle curves : List ℕ) (t : MixingTopology) (c : ControlCache) (mod
           × (out ≡ putAt out₀ (16 * before) (sampleBytes (row from (left start) .outputs)))
       unfolding rowOf
       at-end h = stops Done (ap (row j) (events-end script count i h))
+
+      -- no sample is next
+      pub none-next : sampleFirst (left i) ≡ false
+          → (_≡_ {A = Row} (record { answer = Done; events = i; samples = samples; integrator = j }) (rowEnd start before (row from (left start))))
+          × (out ≡ putAt out₀ (16 * before) (sampleBytes (row from (left start) .outputs)))
+      none-next h = stops Done (row-none j (left i) h)
 
       module _ (more : i < count) where
         pub unreadable : eventAt script (8 + 12 * i) ≡ Unreadable → ⊥

@@ -38,6 +38,11 @@ askedOf (Mode value) = notAsked
 askedOf (Sample sum energy) = record { sample = true; «input_sum» = sum; «source_energy» = energy }
 askedOf Reset = notAsked
 
+-- Whether the first event is a sample.
+abbrev pub sampleFirst : List Event → Bool
+sampleFirst [] = false
+sampleFirst (e ∷ es) = askedOf e .sample
+
 -- The samples that come first, up to one that is refused: how many, their outputs, and the integrator after them.
 pub record Samples : Type 0 where
   pub answer : Answer

@@ -322,6 +322,63 @@ fn play_samples(
     }
 }
 
+// Whether there is an event i and it is a sample.
+fn sample_next(script: &[u8], i: usize, count: usize) -> bool
+    requires { ⌜ P.Ahead (now script) count i ⌝ }
+    ensures { λ r. ⌜ r ≡ W.sampleFirst (P.remainingOf (now (script .entry)) count i) ⌝ }
+{
+    if i < count {
+        let DecodedEvent::Readable(event) = script::event_at(script, 8 + 12 * i) else {
+            return false;
+        };
+        let ask = asks(event);
+        return ask.sample;
+    }
+    false
+}
+
+// The samples in a row from an event on, if there are any: what they share is not worked out for none.
+fn play_row(
+    bundle: &[u8],
+    curves: &[u8],
+    state: State,
+    gain: f32,
+    rest: Read,
+    script: &[u8],
+    start: usize,
+    count: usize,
+    output: &mut [u8],
+    before: usize,
+) -> Row
+    requires { ⌜ P.Ahead (now script) count start ⌝ }
+    requires { ⌜ P.Room (now script) count start (now output) before ⌝ }
+    requires { ⌜ P.Given (now bundle) state gain rest ⌝ }
+    ensures { λ r. ⌜ r ≡ W.rowEnd start before (P.samplesFrom (now (bundle .entry)) (now (curves .entry)) state (now (script .entry)) count start) ⌝ }
+    ensures { λ _. ⌜ now (output .exit) ≡ P.samplesPut (now (output .entry)) before (P.samplesFrom (now (bundle .entry)) (now (curves .entry)) state (now (script .entry)) count start) ⌝ }
+{
+    let integrator = state.integrator;
+    if sample_next(script, start, count) {
+        return play_samples(
+            bundle,
+            curves,
+            state,
+            gain,
+            rest,
+            script,
+            start,
+            count,
+            output,
+            before,
+        );
+    }
+    Row {
+        answer: Answer::Done,
+        events: start,
+        samples: before,
+        integrator,
+    }
+}
+
 // ---- other events in a row
 
 // The events in a row from an event on that are no samples.
@@ -443,7 +500,7 @@ fn play(
         }
         resting = resting_at(bundle, resting, state);
         let rest = resting.rest;
-        let row = play_samples(
+        let row = play_row(
             bundle,
             curves,
             state,

@@ -1,5 +1,6 @@
 use denote.Ref.{now}
-use Rattle.refresh.proofs.Words.{judged-by-words}
+use mathlib.Core.Path.{sym}
+use Rattle.refresh.proofs.Words.{all-usable}
 use borrow.Author.Needs.{needs}
 use Rattle.refresh.proofs.judge_filter.Statement.{statement}
 use Rattle.refresh.proofs.judge_filter.Tie as tie
@@ -28,22 +29,28 @@ cast-usable-at-2 c = search needs
 usable-at-requires-2 : tie.Need-usable-at-requires-2
 usable-at-requires-2 c κs = search needs
 
-judge-filter-if-requires : tie.Need-judge-filter-if-requires
-judge-filter-if-requires c κs = search needs
-
 returns : tie.Need-returns
 returns c =
-    let a = c .before .before .before .before .before .before .before .before .args in
-    simp (
-      c .judge-filter-if .ensures,
-      c .before .usable-at2 .ensures,
-      c .before .before .source-gain-modulation-place .ensures,
-      c .before .before .before .usable-at .ensures,
-      c .before .before .before .before .damping-place .ensures,
-      c .before .before .before .before .before .sixteen-usable .ensures,
-      c .before .before .before .before .before .before .integrator-gain-place .ensures,
-      judged-by-words (now (a .bundle)) (a .cutoff) (a .resonance),
-    )
+    let modulation = c .before in
+    let damping = modulation .before .before in
+    let gains = damping .before .before in
+    let a = gains .before .before .before .before .args in
+    sym
+    (all-usable (now (a .bundle)) (a .cutoff) (a .resonance)
+    (rw (
+      ← gains .before .integrator-gain-place .ensures,
+      ← gains .sixteen-usable .ensures,
+      ← damping .before .damping-place .ensures,
+      ← damping .usable-at .ensures,
+      ← modulation .before .source-gain-modulation-place .ensures,
+      ← modulation .usable-at2 .ensures,
+    ) (c .if2 .taken)))
+
+judge-filter-places-requires : tie.Need-judge-filter-places-requires
+judge-filter-places-requires c κs = search needs
+
+returns-2 : tie.Need-returns-2
+returns-2 c = c .judge-filter-places .ensures
 
 pub judge-filter-spec : {M : Type 1} → statement M
 judge-filter-spec =
@@ -57,5 +64,6 @@ judge-filter-spec =
     source-gain-modulation-place-requires
     cast-usable-at-2
     usable-at-requires-2
-    judge-filter-if-requires
-    returns)
+    returns
+    judge-filter-places-requires
+    returns-2)

@@ -1,56 +1,54 @@
+use mathlib.Core.Path.{sym}
+use borrow.Author.Tests.{ne-eqb}
 use Rattle.response.specs.Gain.{filterModeOutputGainOf}
+use Rattle.response.proofs.Factors.{no-factors}
 use borrow.Author.Needs.{needs}
 use Rattle.response.proofs.filter_mode_output_gain.Statement.{statement}
 use Rattle.response.proofs.filter_mode_output_gain.Tie as tie
 
-cutoff-position-requires : tie.Need-cutoff-position-requires
-cutoff-position-requires c κs = search needs
+product-of-requires : tie.Need-product-of-requires
+product-of-requires c κs = search needs
 
-resonance-position-requires : tie.Need-resonance-position-requires
-resonance-position-requires c κs = search needs
+product-of-requires-2 : tie.Need-product-of-requires-2
+product-of-requires-2 c κs = search needs
 
-base-gain-requires : tie.Need-base-gain-requires
-base-gain-requires c κs = search needs
+product-of-requires-3 : tie.Need-product-of-requires-3
+product-of-requires-3 c κs = search needs
 
-low-band-lift-requires : tie.Need-low-band-lift-requires
-low-band-lift-requires c κs = search needs
-
-bandpass-trim-requires : tie.Need-bandpass-trim-requires
-bandpass-trim-requires c κs = search needs
-
-highpass-loading-requires : tie.Need-highpass-loading-requires
-highpass-loading-requires c κs = search needs
-
-highpass-resonance-trim-requires : tie.Need-highpass-resonance-trim-requires
-highpass-resonance-trim-requires c κs = search needs
-
-single-mode-loading-requires : tie.Need-single-mode-loading-requires
-single-mode-loading-requires c κs = search needs
+product-of-requires-4 : tie.Need-product-of-requires-4
+product-of-requires-4 c κs = search needs
 
 returns : tie.Need-returns
 unfolding filterModeOutputGainOf
-returns c =
-    simp (
-      c .single-mode-loading .ensures,
-      c .before .highpass-resonance-trim .ensures,
-      c .before .before .highpass-loading .ensures,
-      c .before .before .before .bandpass-trim .ensures,
-      c .before .before .before .before .low-band-lift .ensures,
-      c .before .before .before .before .before .base-gain .ensures,
-      c .before .before .before .before .before .before .resonance-position .ensures,
-      c .before .before .before .before .before .before .before .cutoff-position .ensures,
-    )
+returns c = simp (c .before .match .keys1, c .product-of .ensures)
+
+returns-2 : tie.Need-returns-2
+unfolding filterModeOutputGainOf
+returns-2 c = simp (c .before .match .keys2, c .product-of2 .ensures)
+
+returns-3 : tie.Need-returns-3
+unfolding filterModeOutputGainOf
+returns-3 c = simp (c .before .match .keys3, c .product-of3 .ensures)
+
+returns-4 : tie.Need-returns-4
+unfolding filterModeOutputGainOf
+returns-4 c = simp (c .before .match .keys4, c .product-of4 .ensures)
+
+returns-5 : tie.Need-returns-5
+returns-5 c =
+    let none = c .match .rest in
+    sym (no-factors _ _ _ _ (ne-eqb _ _ (none .0 .0 .0 .1)) (ne-eqb _ _ (none .0 .0 .1)) (ne-eqb _ _ (none .0 .1)) (ne-eqb _ _ (none .1)))
 
 pub filter-mode-output-gain-spec : {M : Type 1} → statement M
 filter-mode-output-gain-spec =
     tie.close
     (tie.spec
-    cutoff-position-requires
-    resonance-position-requires
-    base-gain-requires
-    low-band-lift-requires
-    bandpass-trim-requires
-    highpass-loading-requires
-    highpass-resonance-trim-requires
-    single-mode-loading-requires
-    returns)
+    product-of-requires
+    product-of-requires-2
+    product-of-requires-3
+    product-of-requires-4
+    returns
+    returns-2
+    returns-3
+    returns-4
+    returns-5)

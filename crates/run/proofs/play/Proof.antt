@@ -57,8 +57,8 @@ returns c =
 resting-at-requires : tie.Need-resting-at-requires Inv-loop μ-loop
 resting-at-requires c κs = c .before .before .before .before .before .loop .inv .rested
 
-play-samples-requires : tie.Need-play-samples-requires Inv-loop μ-loop
-play-samples-requires c κs =
+play-row-requires : tie.Need-play-row-requires Inv-loop μ-loop
+play-row-requires c κs =
     let r = c .before in
     let e = r .before in
     let d = e .before in
@@ -80,7 +80,7 @@ is-done-requires-2 c κs = search needs
 same-length-2 : tie.Need-same-length-2 Inv-loop μ-loop
 same-length-2 c =
     let p = c .before .before .before .before .before in
-    ap length (p .play-samples .ensures .1) ∙ length-putAt _ _ _ ∙ p .before .before .before .before .before .before .before .before .loop .inv .far .long
+    ap length (p .play-row .ensures .1) ∙ length-putAt _ _ _ ∙ p .before .before .before .before .before .before .before .before .loop .inv .far .long
 
 returns-2 : tie.Need-returns-2 Inv-loop μ-loop
 returns-2 c =
@@ -92,7 +92,7 @@ returns-2 c =
     let far = l .loop .inv .far in
     let done = not-false (d .is-done .result) (e .if1 .left) in
     let then = moves-go _ _ _ _ _ _ _ _ _ far (m .play-changes .ensures) (d .is-done .ensures) done in
-    row-stops _ _ _ _ _ _ _ _ _ then (p .play-samples .ensures .0) (p .play-samples .ensures .1) (c .before .is-done2 .ensures) (not-true (c .before .is-done2 .result) (c .if2 .taken))
+    row-stops _ _ _ _ _ _ _ _ _ then (p .play-row .ensures .0) (p .play-row .ensures .1) (c .before .is-done2 .ensures) (not-true (c .before .is-done2 .result) (c .if2 .taken))
 
 loop-less : tie.Need-loop-less Inv-loop μ-loop
 loop-less c =
@@ -106,8 +106,8 @@ loop-less c =
     let then = moves-go _ _ _ _ _ _ _ _ _ far (m .play-changes .ensures) (d .is-done .ensures) done in
     let last = not-false (c .before .is-done2 .result) (c .if2 .left) in
     let moves = turn-moves _ _ _ _ _ _ _ _ _ far (m .play-changes .ensures) (m .before .loop-test .taken) (d .is-done .ensures) done then
-    (p .play-samples .ensures .0) (p .play-samples .ensures .1) (c .before .is-done2 .ensures) last in
-    let within = row-goes _ _ _ _ _ _ _ _ _ then (p .play-samples .ensures .0) (p .play-samples .ensures .1) (c .before .is-done2 .ensures) last .within in
+    (p .play-row .ensures .0) (p .play-row .ensures .1) (c .before .is-done2 .ensures) last in
+    let within = row-goes _ _ _ _ _ _ _ _ _ then (p .play-row .ensures .0) (p .play-row .ensures .1) (c .before .is-done2 .ensures) last .within in
     omega arith
 
 loop-again : tie.Need-loop-again Inv-loop μ-loop
@@ -121,7 +121,7 @@ loop-again c =
     let done = not-false (d .is-done .result) (e .if1 .left) in
     let then = moves-go _ _ _ _ _ _ _ _ _ far (m .play-changes .ensures) (d .is-done .ensures) done in
     record {
-      far = row-goes _ _ _ _ _ _ _ _ _ then (p .play-samples .ensures .0) (p .play-samples .ensures .1) (c .before .is-done2 .ensures) (not-false (c .before .is-done2 .result) (c .if2 .left));
+      far = row-goes _ _ _ _ _ _ _ _ _ then (p .play-row .ensures .0) (p .play-row .ensures .1) (c .before .is-done2 .ensures) (not-false (c .before .is-done2 .result) (c .if2 .left));
       gained = moves-gain _ _ _ (m .play-changes .ensures);
       rested = rest-told _ (p .before .before .resting-at .ensures);
     }
@@ -146,7 +146,7 @@ play-spec =
     same-length
     returns
     resting-at-requires
-    play-samples-requires
+    play-row-requires
     is-done-requires-2
     same-length-2
     returns-2
