@@ -8,6 +8,8 @@ use lib.IntN.{ℤ}
 use lib.ListN.{getD, replicate}
 use lib.Ieee.{Float, binary32, ofBits}
 use lib.Ieee.Scale.{finite}
+use mir.Syntax.{w16}
+use mir.Val.{ofZ}
 use Rattle.constants.specs.Drives.{sixteen}
 use Rattle.answers.specs.declared.Answer.{Answer}
 use Rattle.answers.specs.declared.Answer.the-variants.{Done, Domain}
@@ -99,6 +101,14 @@ stateGainOf bundle s = gainValueOf (readModeOutputGainOf bundle (s .registers) (
 -- what the controls of a state refuse, and its gain
 abbrev pub judgedOf : List ℕ → State → Judged
 judgedOf bundle s = record { answer = judgeControlsOf bundle s; gain = stateGainOf bundle s }
+
+-- the registers that both follow from are the same; a displacement by its 16 bits
+abbrev pub judgedAlikeOf : FilterRegisters → FilterRegisters → Bool
+judgedAlikeOf a b =
+    eqb (a .cutoff) (b .cutoff)
+    && eqb (ofZ w16 (a .«cutoff_dac_displacement_codes»)) (ofZ w16 (b .«cutoff_dac_displacement_codes»))
+    && eqb (a .resonance) (b .resonance)
+    && eqb (a .mode) (b .mode)
 
 abbrev pub noControls : ControlCache
 noControls =

@@ -18,7 +18,9 @@ use Rattle.control.specs.declared.State.{State}
 use Rattle.control.specs.Registers.{startingState, ofRegisters}
 use Rattle.control.specs.Block.{validOf}
 use Rattle.refresh.specs.declared.Judged.{Judged}
+use Rattle.controls.specs.Judging.{judgeControlsOf}
 use Rattle.refresh.specs.Refresh.{stateGainOf, judgedOf}
+use Rattle.refresh.proofs.Parts.{judged-by-registers}
 use Rattle.script.specs.declared.Event.{Event}
 use Rattle.script.specs.declared.Event.the-variants.{CutoffLow, CutoffHigh, Routing, Mode, Sample, Reset}
 use Rattle.script.specs.declared.DecodedEvent.the-variants.{Readable, Unreadable}
@@ -31,7 +33,7 @@ use Rattle.run.specs.declared.Asked.{Asked}
 use Rattle.run.specs.declared.Moved.{Moved}
 use Rattle.run.specs.Run.{Ran, went, playOf}
 use Rattle.run.specs.Rows.{Moves, askedOf, nextOf, chargesOf, resetsOf, noMoves, oneMove, movesOf}
-use Rattle.run.specs.Parts.{movesEnd}
+use Rattle.run.specs.Parts.{From, doneWith, movesEnd}
 use Rattle.run.proofs.Changes.{next-valid, withNext, quiet-next, charged-next, reset-next, controls-judged, controls-refused, quiet-judged, charge-judged, plain-is}
 use Rattle.run.proofs.Good.{Good}
 
@@ -49,15 +51,19 @@ module _ (bundle script : List ℕ) (count start : ℕ) (from : State) where
     pub within : i ≤ count
     pub readable : allReadable (slicesFrom script count i) ≡ true
     pub valid : validOf s ≡ true
+    pub judged : judgeControlsOf bundle s ≡ Done
     pub gained : g ≡ stateGainOf bundle s
     pub ends : movesEnd bundle i (moves s i) ≡ movesEnd bundle start (moves from start)
 
-  pub sofar-start : start ≤ count → validOf from ≡ true → allReadable (slicesFrom script count start) ≡ true → {g : Float} → g ≡ stateGainOf bundle from → Sofar from g start
-  sofar-start w v r g = record { within = w; readable = r; valid = v; gained = g; ends = refl }
+  pub sofar-start : start ≤ count → allReadable (slicesFrom script count start) ≡ true → {g : Float} → From bundle from g → Sofar from g start
+  sofar-start w r f = record { within = w; readable = r; valid = f .valid; judged = f .judged; gained = f .gained; ends = refl }
 
   module _ (s : State) (g : Float) (i : ℕ) (far : Sofar s g i) where
     abbrev Ends : Answer → Type 0
     Ends answer = _≡_ {A = Moved} (record { answer = answer; events = i; state = s; gain = g }) (movesEnd bundle start (moves from start))
+
+    pub known : judgedOf bundle (ofRegisters (s .registers)) ≡ doneWith g
+    known = judged-by-registers bundle s ∙ rw (far .judged, far .gained) refl
 
     stops : (answer : Answer) → moves s i ≡ noMoves answer s → Ends answer
     stops answer h = rw (far .gained) (sym (ap (movesEnd bundle i) h ∙ rw (add-zero i) refl) ∙ far .ends)
@@ -103,13 +109,15 @@ module _ (bundle script : List ℕ) (count start : ℕ) (from : State) where
             unfolding movesOf
             goes x is judged =
                 let n = nextOf s e in
+                let parts = change-parts bundle n judged in
                 let whole : moves s i ≡ oneMove (moves n (i + 1)) = ap (movesOf bundle s) next ∙ rw (asked-is false other, judged) refl in
                 let events : i + 1 + moves n (i + 1) .events ≡ i + suc (moves n (i + 1) .events) = omega arith in
                 rw is
                 (record {
                   within = omega arith;
                   readable = sym (all-next script count i more e is-e) ∙ far .readable;
-                  valid = next-valid s (far .valid) e (change-parts bundle n judged .1);
+                  valid = next-valid s (far .valid) e (parts .1);
+                  judged = parts .0;
                   gained = ap (λ (x : Judged). x .gain) (controls-judged s (far .valid) e is-r bundle is-j);
                   ends = rw events (sym (ap (movesEnd bundle i) whole) ∙ far .ends);
                 })

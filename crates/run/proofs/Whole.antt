@@ -7,6 +7,7 @@ use mathlib.Core.Bool.{Bool, true, false, cond, true≢false}
 use mathlib.Core.List.{List, [], _∷_, _++_}
 use lib.Dec.{leb}
 use lib.ListN.{length, drop}
+use lib.Ieee.{Float}
 use borrow.Author.Tests.{leb-true, leb-false, le-leb, lt-leb, eq-eqb}
 use Rattle.answers.specs.declared.Answer.{Answer}
 use Rattle.answers.specs.declared.Answer.the-variants.{Done, Argument, Script, OutputLength}
@@ -21,6 +22,7 @@ use Rattle.control.specs.declared.DecodedState.the-variants.{Valid, Invalid}
 use Rattle.control.specs.Block.{validOf, blockOf, fieldsOf, decodeOf, encodeOf}
 use Rattle.control.proofs.RoundTrip.{decoded, encode-decoded}
 use Rattle.controls.specs.Judging.{judgeControlsOf}
+use Rattle.refresh.specs.Refresh.{stateGainOf}
 use Rattle.script.specs.declared.Event.{Event}
 use Rattle.script.specs.declared.Checked.{Checked}
 use Rattle.script.specs.declared.Checked.the-variants.{WellFormed, Refused}
@@ -30,7 +32,7 @@ use Rattle.script.proofs.Cut.{header, events-count}
 use Rattle.filter.specs.Lent.{Lent, judgeLentOf}
 use Rattle.run.specs.declared.Played.{Played}
 use Rattle.run.specs.declared.Ended.{Ended}
-use Rattle.run.specs.Parts.{Ahead, Room, Start, playFrom, playPut}
+use Rattle.run.specs.Parts.{Ahead, Room, From, playFrom, playPut}
 use Rattle.filter.specs.Plain.{plainStep}
 use Rattle.run.specs.Run.{Ran, stopped, went, playOf, playedOf, sampleBytes, isValid, judgeBlockOf, judgeScriptOf, judgeRunOf, leftOf, runOf}
 use Rattle.run.specs.Rows.{playEnd, endedOf}
@@ -108,8 +110,8 @@ module _ (lent : Lent) (script : List ℕ) (s : State) (valid : validOf s ≡ tr
       pub start-room : Room script count 0 output 0
       start-room = record { fewer = omega arith; room = rw (first-is, zero-add (samplesOf (eventsOf script))) (fitting script (length output) fine) }
 
-    pub start-from : Start (lent .bundle) s
-    start-from = record { valid = valid; judged = done-is (judgeControlsOf (lent .bundle) s) (done-here true t) }
+    pub start-from : {gain : Float} → gain ≡ stateGainOf (lent .bundle) s → From (lent .bundle) s gain
+    start-from g = record { valid = valid; judged = done-is (judgeControlsOf (lent .bundle) s) (done-here true t); gained = g }
 
 -- ---- what is judged before the controls
 

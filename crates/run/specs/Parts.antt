@@ -20,6 +20,7 @@ use Rattle.control.specs.Block.{validOf}
 use Rattle.controls.specs.declared.ControlCache.{ControlCache}
 use Rattle.controls.specs.Controls.{refreshFilterControlsOf}
 use Rattle.controls.specs.Judging.{judgeControlsOf}
+use Rattle.refresh.specs.declared.Judged.{Judged}
 use Rattle.refresh.specs.Refresh.{coreControlsOf, stateGainOf}
 use Rattle.sample.specs.Sample.{summerInputsOf}
 use Rattle.sample.specs.Parts.{cacheOf, restOf}
@@ -88,9 +89,15 @@ samplesPut output written r = putAt output (16 * written) (sampleBytes (r .outpu
 
 -- ---- a row of other events
 
+-- a valid state whose controls are not refused, with its mode's gain
 pub record From (bundle : List ℕ) (s : State) (gain : Float) : Type 0 where
   pub valid : validOf s ≡ true
+  pub judged : judgeControlsOf bundle s ≡ Done
   pub gained : gain ≡ stateGainOf bundle s
+
+-- how its registers were judged
+abbrev pub doneWith : Float → Judged
+doneWith gain = record { answer = Done; gain = gain }
 
 abbrev pub movesFrom : List ℕ → State → List ℕ → ℕ → ℕ → Moves
 movesFrom bundle s script count i = movesOf bundle s (remainingOf script count i)
@@ -98,11 +105,7 @@ movesFrom bundle s script count i = movesOf bundle s (remainingOf script count i
 abbrev pub movesEnd : List ℕ → ℕ → Moves → Moved
 movesEnd bundle events m = record { answer = m .answer; events = events + m .events; state = m .state; gain = stateGainOf bundle (m .state) }
 
--- ---- all events, from a state whose controls are not refused
-
-pub record Start (bundle : List ℕ) (s : State) : Type 0 where
-  pub valid : validOf s ≡ true
-  pub judged : judgeControlsOf bundle s ≡ Done
+-- ---- all events
 
 abbrev pub playFrom : Lent → State → List ℕ → ℕ → Ran
 playFrom lent s script count = playOf lent s (remainingOf script count 0)

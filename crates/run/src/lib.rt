@@ -6,7 +6,7 @@ ghost use Rattle.answers.specs.declared.Answer.the-variants.{Done};
 ghost use Rattle.wire.specs.Wire.{putAt};
 ghost use Rattle.control.specs.Registers.{ofRegisters, effectiveCutoffOf};
 ghost use Rattle.control.specs.Block.{validOf};
-ghost use Rattle.refresh.specs.Refresh.{refreshCoreOf};
+ghost use Rattle.refresh.specs.Refresh.{refreshCoreOf, judgedOf};
 ghost use Rattle.sample.specs.Sample.{outputsFinite};
 ghost use Rattle.script.specs.Script.{eventsOf};
 ghost use Rattle.filter.specs.Lent.{lentAll};
@@ -22,6 +22,7 @@ use integrator::IntegratorState;
 use mixing::MixingTopology;
 use refresh::CoreControls;
 use refresh::CoreRefreshed;
+use refresh::Judged;
 use sample::Outputs;
 use sample::Sampled;
 use script::Checked;
@@ -176,6 +177,24 @@ fn next_registers(registers: FilterRegisters, event: Event) -> FilterRegisters
         } => registers,
         Event::Reset => FilterRegisters::new(),
     }
+}
+
+// What their controls refuse, and their gain. Where the event leaves what is judged as it was, as a write of the volume alone does, both are as before.
+fn judge_next(bundle: &[u8], before: FilterRegisters, gain: f32, next: FilterRegisters) -> Judged
+    requires { ⌜ judgedOf (now bundle) (ofRegisters before) ≡ P.doneWith gain ⌝ }
+    ensures { λ r. ⌜ r ≡ judgedOf (now (bundle .entry)) (ofRegisters next) ⌝ }
+{
+    if (before.cutoff == next.cutoff)
+        & (before.cutoff_dac_displacement_codes == next.cutoff_dac_displacement_codes)
+        & (before.resonance == next.resonance)
+        & (before.mode == next.mode)
+    {
+        return Judged {
+            answer: Answer::Done,
+            gain,
+        };
+    }
+    refresh::judge_registers(bundle, next)
 }
 
 // Whether it charges the output node, as a write of the volume does.
@@ -417,7 +436,7 @@ fn play_changes(
         }
         let before = state.registers;
         let registers = next_registers(before, event);
-        let judged = refresh::judge_registers(bundle, registers);
+        let judged = judge_next(bundle, before, gain, registers);
         let answer = judged.answer;
         if !answers::is_done(answer) {
             return Moved {
@@ -474,7 +493,6 @@ fn play(
 ) -> Played
     requires { ⌜ P.Ahead (now script) count 0 ⌝ }
     requires { ⌜ P.Room (now script) count 0 (now output) 0 ⌝ }
-    requires { ⌜ P.Start (now bundle) first ⌝ }
     requires { ⌜ P.From (now bundle) first given ⌝ }
     ensures { λ r. ⌜ r ≡ W.playEnd 0 0 (P.playFrom (lentAll (now (bundle .entry)) (now (curves .entry)) (now (decays .entry))) first (now (script .entry)) count) ⌝ }
     ensures { λ _. ⌜ now (output .exit) ≡ P.playPut (now (output .entry)) (P.playFrom (lentAll (now (bundle .entry)) (now (curves .entry)) (now (decays .entry))) first (now (script .entry)) count) ⌝ }

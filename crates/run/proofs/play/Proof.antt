@@ -27,8 +27,8 @@ loop-holds : tie.Need-loop-holds Inv-loop μ-loop
 loop-holds c =
     let z = c .before .before .before .before .before .before .before .pre in
     record {
-      far = sofar-start _ _ _ _ _ (record { valid = z .1 .1 .0 .valid; judged = z .1 .1 .0 .judged }) (z .0 .readable) (let r = z .1 .0 .room in omega arith);
-      gained = z .1 .1 .1 .gained;
+      far = sofar-start _ _ _ _ _ (record { valid = z .1 .1 .valid; judged = z .1 .1 .judged }) (z .0 .readable) (let r = z .1 .0 .room in omega arith);
+      gained = z .1 .1 .gained;
       rested = rest-told _ (c .resting-of .ensures);
     }
 
@@ -37,7 +37,7 @@ play-changes-requires c κs =
     let l = c .before in
     let far = l .loop .inv .far in (
       record { within = far .within; few = l .before .before .before .before .before .before .before .before .pre .0 .few; readable = far .readable },
-      record { valid = far .good .valid; gained = l .loop .inv .gained },
+      record { valid = far .good .valid; judged = far .good .judged; gained = l .loop .inv .gained },
     )
 
 is-done-requires : tie.Need-is-done-requires Inv-loop μ-loop

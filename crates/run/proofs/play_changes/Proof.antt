@@ -4,7 +4,7 @@ use mathlib.Core.Path.{sym, _∙_}
 use mathlib.Core.Logic.{⊎-elim}
 use borrow.Author.Needs.{needs}
 use borrow.Author.Tests.{not-true, not-false}
-use Rattle.run.proofs.Moves.{Sofar, sofar-start, at-end, unreadable, sampled, refused, overflows, charge-none, charge-goes, reset-none, reset-goes}
+use Rattle.run.proofs.Moves.{Sofar, sofar-start, known, at-end, unreadable, sampled, refused, overflows, charge-none, charge-goes, reset-none, reset-goes}
 use Rattle.run.proofs.play_changes.Statement.{statement}
 use Rattle.run.proofs.play_changes.Tie as tie
 
@@ -17,7 +17,7 @@ abbrev μ-loop : tie.MeasureT-loop
 loop-holds : tie.Need-loop-holds Inv-loop μ-loop
 loop-holds c =
     let z = c .before .before .pre in
-    sofar-start _ _ _ _ _ (z .0 .within) (z .1 .valid) (z .0 .readable) (z .1 .gained)
+    sofar-start _ _ _ _ _ (z .0 .within) (z .0 .readable) (z .1)
 
 mul-event-at : tie.Need-mul-event-at Inv-loop μ-loop
 mul-event-at c = search needs
@@ -53,8 +53,8 @@ returns-2 c =
 next-registers-requires : tie.Need-next-registers-requires Inv-loop μ-loop
 next-registers-requires c κs = search needs
 
-judge-registers-requires : tie.Need-judge-registers-requires Inv-loop μ-loop
-judge-registers-requires c κs = search needs
+judge-next-requires : tie.Need-judge-next-requires Inv-loop μ-loop
+judge-next-requires c κs = known _ _ _ _ _ _ _ _ (c .before .before .before .before .before .before .before .before .before .loop .inv)
 
 is-done-requires : tie.Need-is-done-requires Inv-loop μ-loop
 is-done-requires c κs = search needs
@@ -68,7 +68,7 @@ returns-3 c =
     let e = v .before .before in
     let l = e .before .before in
     refused _ _ _ _ _ _ _ _ (l .loop .inv) (e .before .loop-test .taken) (v .event .given .0 .0) (sym (e .event-at .ensures) ∙ v .event .given .1) (a .asks .ensures)
-    (r .before .before .if1 .left) (r .next-registers .ensures) (d .before .judge-registers .ensures) (d .is-done .ensures) (not-true (d .is-done .result) (c .if2 .taken))
+    (r .before .before .if1 .left) (r .next-registers .ensures) (d .before .judge-next .ensures) (d .is-done .ensures) (not-true (d .is-done .result) (c .if2 .taken))
 
 charges-requires : tie.Need-charges-requires Inv-loop μ-loop
 charges-requires c κs = search needs
@@ -92,7 +92,7 @@ returns-4 c =
     let e = v .before .before in
     let l = e .before .before in
     overflows _ _ _ _ _ _ _ _ (l .loop .inv) (e .before .loop-test .taken) (v .event .given .0 .0) (sym (e .event-at .ensures) ∙ v .event .given .1) (a .asks .ensures)
-    (r .before .before .if1 .left) (r .next-registers .ensures) (d .before .judge-registers .ensures) (d .is-done .ensures) (not-false (d .is-done .result) (charges .before .if2 .left))
+    (r .before .before .if1 .left) (r .next-registers .ensures) (d .before .judge-next .ensures) (d .is-done .ensures) (not-false (d .is-done .result) (charges .before .if2 .left))
     (charges .charges .ensures) (taken .if3 .taken) (t .charge .ensures) (f .finite-charges .ensures) (not-true (f .finite-charges .result) (c .if4 .taken))
 
 resets-requires : tie.Need-resets-requires Inv-loop μ-loop
@@ -131,15 +131,15 @@ loop-again c =
     let done = not-false (d .is-done .result) (charges .before .if2 .left) in
     let charged =
     ⊎-elim
-    (λ w. charge-goes _ _ _ _ _ _ _ _ inv more event is (a .asks .ensures) other (r .next-registers .ensures) (d .before .judge-registers .ensures) (d .is-done .ensures) done
+    (λ w. charge-goes _ _ _ _ _ _ _ _ inv more event is (a .asks .ensures) other (r .next-registers .ensures) (d .before .judge-next .ensures) (d .is-done .ensures) done
     (charges .charges .ensures) (w .0 .taken) (w .2 .ensures) (w .3 .ensures) (not-false (w .3 .result) (w .4 .left)) (w .5))
-    (λ w. charge-none _ _ _ _ _ _ _ _ inv more event is (a .asks .ensures) other (r .next-registers .ensures) (d .before .judge-registers .ensures) (d .is-done .ensures) done
+    (λ w. charge-none _ _ _ _ _ _ _ _ inv more event is (a .asks .ensures) other (r .next-registers .ensures) (d .before .judge-next .ensures) (d .is-done .ensures) done
     (charges .charges .ensures) (w .0 .left) (w .1))
     (joined .if3 .came) in
     ⊎-elim
-    (λ w. reset-goes _ _ _ _ _ _ _ _ inv more event is (a .asks .ensures) other (r .next-registers .ensures) (d .before .judge-registers .ensures) (d .is-done .ensures) done
+    (λ w. reset-goes _ _ _ _ _ _ _ _ inv more event is (a .asks .ensures) other (r .next-registers .ensures) (d .before .judge-next .ensures) (d .is-done .ensures) done
     (charges .charges .ensures) charged (c .before .resets .ensures) (w .0 .taken) (w .1 .ensures) (w .4))
-    (λ w. reset-none _ _ _ _ _ _ _ _ inv more event is (a .asks .ensures) other (r .next-registers .ensures) (d .before .judge-registers .ensures) (d .is-done .ensures) done
+    (λ w. reset-none _ _ _ _ _ _ _ _ inv more event is (a .asks .ensures) other (r .next-registers .ensures) (d .before .judge-next .ensures) (d .is-done .ensures) done
     (charges .charges .ensures) charged (c .before .resets .ensures) (w .0 .left) (w .1))
     (c .if5 .came)
 
@@ -162,7 +162,7 @@ play-changes-spec =
     asks-requires
     returns-2
     next-registers-requires
-    judge-registers-requires
+    judge-next-requires
     is-done-requires
     returns-3
     charges-requires

@@ -34,10 +34,7 @@ play-requires c κs =
       start-ahead lent _ _ (z .0) is done (t .if1 .taken) count (now (q .args .output)) (z .1),
       (
         start-room lent _ _ (z .0) is done (t .if1 .taken) count (now (q .args .output)) (z .1),
-        (
-          start-from lent _ _ (z .0) is done (t .if1 .taken) count,
-          record { valid = z .0; gained = ap (λ (j : Judged). j .gain) j },
-        ),
+        start-from lent _ _ (z .0) is done (t .if1 .taken) count (ap (λ (j : Judged). j .gain) j),
       ),
     )
 
