@@ -11,10 +11,10 @@ use borrow.Author.Tests.{eqb-true}
 use Rattle.floats.proofs.Laws.{both}
 use Rattle.control.specs.declared.FilterRegisters.{FilterRegisters}
 use Rattle.control.specs.Registers.{ofRegisters}
-use Rattle.controls.specs.Controls.{directionalOf, refreshModeOutputGainOf, refreshRegisterOutputStateOf}
-use Rattle.controls.specs.Judging.{judgeModeOf, finiteOutputOf, judgeControlsOf}
+use Rattle.controls.specs.Controls.{directionalOf, refreshModeOutputGainOf}
+use Rattle.controls.specs.Judging.{judgeModeOf}
 use Rattle.finite.proofs.Finite.{output-finite}
-use Rattle.refresh.specs.Refresh.{judgeGainOf, judgedOf, judgedAlikeOf}
+use Rattle.refresh.specs.Refresh.{judgeGainOf, judgedOf}
 use Rattle.refresh.proofs.Parts.{judged-by-parts}
 
 -- within their types
@@ -23,6 +23,14 @@ pub record Fit (r : FilterRegisters) : Type 0 where
   pub displacement : SFits w16 (r .«cutoff_dac_displacement_codes»)
   pub resonance : r .resonance < 256
   pub volume : r .volume < 256
+
+-- the four are the same, the displacement by its 16 bits
+abbrev pub Alike : FilterRegisters → FilterRegisters → Bool
+Alike a b =
+    eqb (a .cutoff) (b .cutoff)
+    && eqb (ofZ w16 (a .«cutoff_dac_displacement_codes»)) (ofZ w16 (b .«cutoff_dac_displacement_codes»))
+    && eqb (a .resonance) (b .resonance)
+    && eqb (a .mode) (b .mode)
 
 -- with the others at 0
 abbrev bare : FilterRegisters → FilterRegisters
@@ -49,7 +57,7 @@ module _ (bundle : List ℕ) where
         output-finite (bare r) (lit≤ tt) (f .cutoff),
       ) refl
 
-  pub judged-alike : (a b : FilterRegisters) → Fit a → Fit b → judgedAlikeOf a b ≡ true → judgedOf bundle (ofRegisters a) ≡ judgedOf bundle (ofRegisters b)
+  pub judged-alike : (a b : FilterRegisters) → Fit a → Fit b → Alike a b ≡ true → judgedOf bundle (ofRegisters a) ≡ judgedOf bundle (ofRegisters b)
   judged-alike a b f g h =
       let x = a .«cutoff_dac_displacement_codes» in
       let y = b .«cutoff_dac_displacement_codes» in

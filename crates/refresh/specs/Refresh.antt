@@ -1,15 +1,13 @@
 -- What the refresh calls give as the code makes it, by the part that a write changes, and what is refused of each part. The calls themselves are defined in
 -- crates/controls: Controls.antt and Judging.antt.
 use Prim.Native.Nat.{ℕ}
-use mathlib.Core.Bool.{Bool, false, cond, _&&_}
+use mathlib.Core.Bool.{false, cond, _&&_}
 use mathlib.Core.List.{List}
 use lib.Dec.{eqb}
 use lib.IntN.{ℤ}
 use lib.ListN.{getD, replicate}
 use lib.Ieee.{Float, binary32, ofBits}
 use lib.Ieee.Scale.{finite}
-use mir.Syntax.{w16}
-use mir.Val.{ofZ}
 use Rattle.constants.specs.Drives.{sixteen}
 use Rattle.answers.specs.declared.Answer.{Answer}
 use Rattle.answers.specs.declared.Answer.the-variants.{Done, Domain}
@@ -27,7 +25,7 @@ use Rattle.control.specs.Registers.{effectiveCutoffOf}
 use Rattle.controls.specs.declared.FilterControls.{FilterControls}
 use Rattle.controls.specs.declared.ControlCache.{ControlCache}
 use Rattle.controls.specs.Controls.{refreshFilterControlsOf, refreshModeOutputGainOf, refreshRegisterOutputStateOf, controlsOf}
-use Rattle.controls.specs.Judging.{judgeFilterOf, judgeIfOf, judgeModeOf, finiteOutputOf, judgeControlsOf}
+use Rattle.controls.specs.Judging.{judgeIfOf, judgeModeOf, finiteOutputOf, judgeControlsOf}
 use Rattle.refresh.specs.declared.CoreControls.{CoreControls}
 use Rattle.refresh.specs.declared.CoreRefreshed.{CoreRefreshed}
 use Rattle.refresh.specs.declared.Judged.{Judged}
@@ -101,14 +99,6 @@ stateGainOf bundle s = gainValueOf (readModeOutputGainOf bundle (s .registers) (
 -- what the controls of a state refuse, and its gain
 abbrev pub judgedOf : List ℕ → State → Judged
 judgedOf bundle s = record { answer = judgeControlsOf bundle s; gain = stateGainOf bundle s }
-
--- the registers that both follow from are the same; a displacement by its 16 bits
-abbrev pub judgedAlikeOf : FilterRegisters → FilterRegisters → Bool
-judgedAlikeOf a b =
-    eqb (a .cutoff) (b .cutoff)
-    && eqb (ofZ w16 (a .«cutoff_dac_displacement_codes»)) (ofZ w16 (b .«cutoff_dac_displacement_codes»))
-    && eqb (a .resonance) (b .resonance)
-    && eqb (a .mode) (b .mode)
 
 abbrev pub noControls : ControlCache
 noControls =

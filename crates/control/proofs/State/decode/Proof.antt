@@ -1,4 +1,3 @@
-use denote.Ref.{now}
 use mathlib.Core.Bool.{true, false}
 use Rattle.control.proofs.Block.{decode-told, decode-not}
 use borrow.Author.Needs.{needs}
