@@ -5,6 +5,3 @@ pub mod Rows
 pub mod Moves
 pub mod Loop
 pub mod Whole
-pub mod ShutOut
-pub mod Cutting
-pub mod Joined

@@ -1,5 +1,3 @@
 pub mod Run
 pub mod Rows
 pub mod Parts
-pub mod Pieces
-pub mod Traces

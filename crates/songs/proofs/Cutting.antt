@@ -23,10 +23,10 @@ use Rattle.script.specs.declared.Event.{Event}
 use Rattle.script.specs.Script.{eventsOf, samplesOf}
 use Rattle.filter.specs.Lent.{Lent, judgeLentOf}
 use Rattle.filter.specs.Plain.{Plain, plainStart, plainStep}
 use Rattle.run.specs.Run.{Ran, stopped, went, playOf, playedOf, sampleBytes, judgeRunOf, judgeScriptOf, leftOf, runOf}
-use Rattle.run.specs.Pieces.{Piece, eventsOfAll, Ready, AllReady, Told, told, toldRan, joinTold, piecesOf, plainTold}
+use Rattle.songs.specs.Pieces.{Piece, eventsOfAll, Ready, AllReady, Told, told, toldRan, joinTold, piecesOf, plainTold}
 use Rattle.run.proofs.Bytes.{length-outputs, outputs-append}
 use Rattle.run.proofs.Good.{Good, good-play}
 
 -- ---- one run after another
 

@@ -19,9 +19,9 @@ use Rattle.filter.specs.Plain.{plainStart, plainStep, plainTrace}
 use Rattle.filter.specs.Core.{coreStartOf}
 use Rattle.filter.specs.Lists.{coreTrace, shownAll}
 use Rattle.filter.proofs.Demand3.{demand-3}
 use Rattle.run.specs.Run.{Ran, stopped, went, playOf, playedOf, judgeRunOf, leftOf, runOf}
-use Rattle.run.specs.Traces.{upToRefusal, coreRan}
+use Rattle.songs.specs.Traces.{upToRefusal, coreRan}
 use Rattle.run.proofs.Whole.{parts, block-valid}
 
 -- the plain machine up to its first refusal is its trace up to there
 play-trace : (lent : Lent) (s : State) (es : List Event) → playOf lent s es ≡ upToRefusal s (plainTrace lent s es)

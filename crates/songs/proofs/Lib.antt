@@ -1,0 +1,3 @@
+pub mod ShutOut
+pub mod Cutting
+pub mod Joined
