@@ -1,4 +1,6 @@
 // What the voices beside the filter do to the mixer and to the output, by their activity: the sum of their envelopes.
+#![tactic(auto)]
+
 ghost use Rattle.std.specs.Prelude.{◌≡◌};
 ghost use Rattle.activity.specs.Activity as T;
 

@@ -1,16 +1,18 @@
 // What a call answers: done, or one of the refusals of docs/FORMATS.md.
+#![tactic(auto)]
+
 ghost use Rattle.std.specs.Prelude.{◌≡◌};
 ghost use Rattle.answers.specs.Answers.{number_of, buffer_number_of, buffer_of, place_of, report_of, is_done_of, first_of, unless_of};
 
 // The lent buffer in which an unusable entry stands.
-#[derive(Drop)]
+#[derive(Clone, Copy)]
 pub enum Buffer {
     Bundle,
     Curves,
 }
 
 // Done, or a refusal by its cause. A run that turns back at an event has written the samples and the state before that event, and nothing else.
-#[derive(Drop)]
+#[derive(Clone, Copy)]
 pub enum Answer {
     Done,
     // The bundle is not 6,127,736 bytes long. Everything is left as it was.
@@ -39,7 +41,7 @@ pub enum Answer {
 }
 
 // An answer by its number: 0 is done, and a buffer or a place that the table of refusals does not name is 0.
-#[derive(Drop)]
+#[derive(Clone, Copy)]
 pub struct Reported {
     pub number: u32,
     pub buffer: u32,

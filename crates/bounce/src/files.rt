@@ -7,7 +7,7 @@ ghost use Rattle.control.specs.Block.{block_of};
 use control::State;
 
 // Whether a file was read to its end, or as far as the buffer goes, and how many bytes came.
-#[derive(Drop)]
+#[derive(Clone, Copy)]
 pub(crate) struct Loaded {
     pub whole: bool,
     pub size: usize,

@@ -1,5 +1,7 @@
 // bounce BUNDLE DECAYS STATE OUTPUT SCRIPT..: runs each script from the state that the last one left, the first from the file STATE, or from the starting value where
 // that is missing. The samples go to OUTPUT, script by script, the end state to STATE, and a line a script to standard output, with a status in the last one.
+#![tactic(auto)]
+
 mod files;
 mod names;
 

@@ -1,4 +1,6 @@
 // What bounce says, as text in a lent buffer, and what it asks of the names of files.
+#![tactic(auto)]
+
 mod lines;
 
 ghost use Rattle.std.specs.Prelude.{◌≡◌, ◌++◌};

@@ -1,11 +1,13 @@
 // One script of a bounce, on lent buffers: its samples, the state that it leaves, and what is said of it.
+#![tactic(auto)]
+
 ghost use Rattle.std.specs.Prelude.{◌≡◌};
 ghost use Rattle.io.specs.Counts.{IsPrefixLen};
 ghost use Rattle.filter.specs.Lent.{lent_all};
 ghost use Rattle.bounce_step.specs.Steps.{step_of};
 
 // The answer's number, and how many bytes the samples and the line have.
-#[derive(Drop)]
+#[derive(Clone, Copy)]
 pub struct Stepped {
     pub number: u32,
     pub samples: usize,

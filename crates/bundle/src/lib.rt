@@ -1,4 +1,6 @@
 // The bundle of tables that the Rust makes: its fixed header, the places of its entries, reading one, and opening.
+#![tactic(auto)]
+
 ghost use Rattle.std.specs.Prelude.{◌≡◌, ℕ, ◌+◌, ◌*◌, ◌≤◌, ◌<◌, true, get_or, [], ◌∷◌};
 ghost use Rattle.bundle.specs.Layout.{integrator_gain_place, damping_place, source_gain_modulation_place, highpass_loading_place, displacement_index_of, directional_power_place};
 ghost use Rattle.bundle.specs.Layout.{analogue_surface, bundle_length, header_length, sections, pairs, header};
@@ -129,7 +131,7 @@ pub fn entry_at(bundle: &[u8], place: u32) -> f32
 }
 
 // What a call that judges each entry as it reads it gives: its value, or the refusal of the first unusable one.
-#[derive(Drop)]
+#[derive(Clone, Copy)]
 pub enum Read {
     Value(f32),
     Refused(Answer),

@@ -1,4 +1,6 @@
 // One tick of the chip's clock, from three voices to the argument of the output stage.
+#![tactic(auto)]
+
 ghost use Rattle.std.specs.Prelude.{◌≡◌};
 ghost use Rattle.sample.specs.Parts.{cache_of};
 ghost use Rattle.clock.specs.Transients as T;
@@ -20,7 +22,7 @@ use transients::{SawBlends, TransientState};
 use voice::VoiceSignal;
 
 // What is left of each charge after a tick, and the part of its way that a saw settles in one.
-#[derive(Drop)]
+#[derive(Clone, Copy)]
 pub struct Factors {
     pub volume_fast_decay: f32,
     pub volume_slow_decay: f32,
@@ -31,7 +33,7 @@ pub struct Factors {
 }
 
 // Where the curves of the summer, the mixer and the volume stand in the buffer.
-#[derive(Drop)]
+#[derive(Clone, Copy)]
 pub struct Slots {
     pub summer: u8,
     pub mixer: u8,
@@ -39,7 +41,7 @@ pub struct Slots {
 }
 
 // What stands still from one write to the next, beside the filter's own controls.
-#[derive(Drop)]
+#[derive(Clone, Copy)]
 pub struct Settings {
     pub slots: Slots,
     pub topology: MixingTopology,
@@ -52,7 +54,7 @@ pub struct Settings {
 
 // What a tick gives: the output stage's argument, the charges on the output node, and the outputs of mixer and filter.
 #[repr(C)]
-#[derive(Drop)]
+#[derive(Clone, Copy)]
 pub struct TickOutputs {
     pub stage: f32,
     pub charge: f32,
@@ -61,7 +63,7 @@ pub struct TickOutputs {
 }
 
 // A tick that went, with what it leaves, or one that was refused, which leaves all as it was.
-#[derive(Drop)]
+#[derive(Clone, Copy)]
 pub enum Ticked {
     Clocked {
         outputs: TickOutputs,

@@ -1,4 +1,6 @@
 // The filter's numbers, from constants.rs, with the Rust's names, digits and order. The functions at the end tie each to its bits in specs/.
+#![tactic(auto)]
+
 ghost use Rattle.std.specs.Prelude.{◌≡◌};
 ghost use Rattle.constants.specs.Values as K;
 ghost use Rattle.constants.specs.Drives.{input_drives_of, feedback_drives_of};

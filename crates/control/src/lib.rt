@@ -1,4 +1,6 @@
 // The filter's registers, its state and the state's 68-byte block, with the 24-byte block of a state without transients.
+#![tactic(auto)]
+
 ghost use Rattle.std.specs.Prelude.{◌≡◌};
 ghost use Rattle.control.specs.Registers.{starting_registers, starting_state, of_registers, step_between_of, displacement_of, displaced_of};
 ghost use Rattle.control.specs.Registers.{previous_cutoff_of, effective_cutoff_of, write_cutoff_low_of, write_cutoff_high_of, write_signal_routing_of, write_mode_and_volume_of};
@@ -10,7 +12,7 @@ use integrator::IntegratorState;
 use transients::TransientState;
 
 // The registers as written, and the displacement that the last step of the cutoff left on its DAC, with where the next step starts.
-#[derive(Drop)]
+#[derive(Clone, Copy)]
 pub struct FilterRegisters {
     pub cutoff: u16,
     pub cutoff_dac_displacement_codes: i16,
@@ -23,7 +25,7 @@ pub struct FilterRegisters {
 }
 
 // What the register writes and the samples change: all else is worked out from it.
-#[derive(Drop)]
+#[derive(Clone, Copy)]
 pub struct State {
     pub registers: FilterRegisters,
     pub integrator: IntegratorState,
@@ -31,7 +33,7 @@ pub struct State {
 }
 
 // What a block stands for.
-#[derive(Drop)]
+#[derive(Clone, Copy)]
 pub enum DecodedState {
     Valid(State),
     Invalid,

@@ -1,4 +1,6 @@
 // What is kept of the registers for the samples that follow: its fields, the formulas of the three refresh calls, and the test that every number is finite.
+#![tactic(auto)]
+
 ghost use Rattle.std.specs.Prelude.{◌≡◌};
 ghost use Rattle.controls.specs.Controls as C;
 ghost use Rattle.controls.specs.Judging as J;
@@ -7,7 +9,7 @@ use control::FilterRegisters;
 
 // What `refresh_filter_controls` works out at the effective cutoff and the resonance.
 #[repr(C)]
-#[derive(Drop)]
+#[derive(Clone, Copy)]
 pub struct FilterControls {
     pub effective_cutoff_index: usize,
     pub integrator_gain: [f32; 16],
@@ -26,7 +28,7 @@ pub struct FilterControls {
 
 // What `refresh_register_output_state` works out.
 #[repr(C)]
-#[derive(Drop)]
+#[derive(Clone, Copy)]
 pub struct OutputControls {
     pub filter_common_mode: f32,
     pub volume_fraction: f32,
@@ -39,7 +41,7 @@ pub struct OutputControls {
 
 // The Rust's `ControlCache`, its fields grouped by the call that works them out.
 #[repr(C)]
-#[derive(Drop)]
+#[derive(Clone, Copy)]
 pub struct ControlCache {
     pub filter: FilterControls,
     pub mode_output_gain: f32,

@@ -1,5 +1,7 @@
 // The loaded amplifier's transfer curves: positions in the analogue surface, sampling the surface and a curve, and building the 31 curves.
 // A sampling function is total: an unusable entry counts as the float that it is, and the judging function beside it refuses it.
+#![tactic(auto)]
+
 ghost use Rattle.std.specs.Prelude.{◌≡◌, ◌+◌, ◌*◌, ◌≤◌, ◌<◌, length, true, [], ◌∷◌};
 ghost use Rattle.wire.specs.Wire.{f32_at, usable_at};
 ghost use Rattle.answers.specs.declared.Buffer.TheVariants.{Bundle, Curves};
@@ -33,7 +35,7 @@ const ROW_ENTRIES: usize = 2_048;
 const ROW_BYTES: usize = 8_192;
 
 // The rows of the two loads that a conductance lies between, each by the index of its first entry, and how far it lies from the lower one.
-#[derive(Drop)]
+#[derive(Clone, Copy)]
 pub struct AnalogueLoadPosition {
     pub lower_base: usize,
     pub upper_base: usize,
@@ -42,7 +44,7 @@ pub struct AnalogueLoadPosition {
 
 // Where on a curve an input stands, and the value there: it lies between the entry of the index and the next one, the fraction of the way up.
 #[repr(C)]
-#[derive(Drop)]
+#[derive(Clone, Copy)]
 pub struct CurvePoint {
     pub value: f32,
     pub index: u32,

@@ -1,4 +1,6 @@
 // The direct calls of the filter's parts, each refusing by the table of docs/FORMATS.md before it hands out a number. A refused call answers zeros.
+#![tactic(auto)]
+
 ghost use Rattle.std.specs.Prelude.{◌≡◌};
 ghost use Rattle.response.specs.Levels.{filter_mode_quiescent_level_of};
 ghost use Rattle.direct.specs.Calls as C;
@@ -10,42 +12,42 @@ use mixing::MixingTopology;
 use response::TablePosition;
 
 // A number.
-#[derive(Drop)]
+#[derive(Clone, Copy)]
 pub struct Valued {
     pub answer: Answer,
     pub value: f32,
 }
 
 // A point of a curve.
-#[derive(Drop)]
+#[derive(Clone, Copy)]
 pub struct Pointed {
     pub answer: Answer,
     pub point: CurvePoint,
 }
 
 // A substep's outputs and the state after it.
-#[derive(Drop)]
+#[derive(Clone, Copy)]
 pub struct Substepped {
     pub answer: Answer,
     pub advanced: Advanced,
 }
 
 // A topology.
-#[derive(Drop)]
+#[derive(Clone, Copy)]
 pub struct Routed {
     pub answer: Answer,
     pub topology: MixingTopology,
 }
 
 // The two loads of the surface that a conductance lies between.
-#[derive(Drop)]
+#[derive(Clone, Copy)]
 pub struct Positioned {
     pub answer: Answer,
     pub position: AnalogueLoadPosition,
 }
 
 // The operating bins that a position lies between.
-#[derive(Drop)]
+#[derive(Clone, Copy)]
 pub struct Binned {
     pub answer: Answer,
     pub position: TablePosition,

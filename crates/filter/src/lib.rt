@@ -1,4 +1,6 @@
 // The core: the state with what is kept of it between events, its register writes, its samples and its reset.
+#![tactic(auto)]
+
 ghost use Rattle.std.specs.Prelude.{◌≡◌};
 ghost use Rattle.script.specs.declared.Event.TheVariants.{CutoffLow, CutoffHigh, Routing, Mode, Reset};
 ghost use Rattle.filter.specs.Lent.{lent_of, lent_all, judge_lent_of};
@@ -12,7 +14,7 @@ use sample::{Outputs, Sampled};
 use script::Event;
 
 // The state, with the topology and the controls that are kept so that a sample need not work them out.
-#[derive(Drop)]
+#[derive(Clone, Copy)]
 pub struct Core {
     pub state: State,
     pub topology: MixingTopology,
@@ -20,14 +22,14 @@ pub struct Core {
 }
 
 // What a write answers, and the next core; where it is refused, the core that it took.
-#[derive(Drop)]
+#[derive(Clone, Copy)]
 pub struct Written {
     pub answer: Answer,
     pub core: Core,
 }
 
 // What an event answers, with the outputs of a sample that was taken, and zeros in any other case.
-#[derive(Drop)]
+#[derive(Clone, Copy)]
 pub struct Fed {
     pub answer: Answer,
     pub outputs: Outputs,

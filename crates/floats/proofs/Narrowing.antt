@@ -165,21 +165,21 @@ scaled y d x r k e h v =
         ∙ sym (mul_assoc d (2 ^ k) (2 ^ low binary64))
 
 pub compare_below : (m n : ℕ) → m < n → compare m n ≡ Ordering.lt
-compare_below zero (suc n) h = compare.zero_suc n
-compare_below (suc m) (suc n) h = compare.suc_suc m n ∙ compare_below m n (omega arith)
+compare_below zero (suc n) h = compare.zero-suc n
+compare_below (suc m) (suc n) h = compare.suc-suc m n ∙ compare_below m n (omega arith)
 compare_below m zero h = absurd (omega arith)
 
 pub compare_above : (m n : ℕ) → n < m → compare m n ≡ Ordering.gt
-compare_above (suc m) zero h = compare.suc_zero m
-compare_above (suc m) (suc n) h = compare.suc_suc m n ∙ compare_above m n (omega arith)
+compare_above (suc m) zero h = compare.suc-zero m
+compare_above (suc m) (suc n) h = compare.suc-suc m n ∙ compare_above m n (omega arith)
 compare_above zero n h = absurd (omega arith)
 
 pub compare_same : (m n : ℕ) → m ≡ n → compare m n ≡ Ordering.eq
 compare_same m n e = subst (λ (k : ℕ). compare m k ≡ Ordering.eq) e (self m)
   where
     self : (k : ℕ) → compare k k ≡ Ordering.eq
-    self zero = compare.zero_zero
-    self (suc k) = compare.suc_suc k k ∙ self k
+    self zero = compare.zero-zero
+    self (suc k) = compare.suc-suc k k ∙ self k
 
 no_closest : (a b : ℕ) → a * 2 < b → closest a b ≡ 0
 no_closest a b h =

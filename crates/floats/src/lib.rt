@@ -1,5 +1,7 @@
 // Rust's operations on floats that Rattle lacks. Each public one gives Rust's value for every input, a NaN, the infinities and both zeros included;
 // `of_usize` alone stops at 2^24.
+#![tactic(auto)]
+
 ghost use Rattle.std.specs.Prelude.{◌≡◌, ◌<◌, ◌≤◌, false, not, T, pos, is_nan};
 ghost use Rattle.std.specs.Float.{binary32, binary64};
 ghost use Rattle.std.specs.Float.Ieee.{of_fields, of_int, to_unsigned, to_signed};

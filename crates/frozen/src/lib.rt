@@ -1,4 +1,6 @@
 // The level of the output while all three waveform DACs stand still: a DC operating point, no audio.
+#![tactic(auto)]
+
 ghost use Rattle.std.specs.Prelude.{◌≡◌};
 ghost use Rattle.frozen.specs.Frozen as F;
 

@@ -1,12 +1,14 @@
 // The nonlinear state-variable integrator of the 6581's filter: two capacitors, whose states are the band-pass and the low-pass;
 // high-pass is worked out from the input and the feedback.
+#![tactic(auto)]
+
 ghost use Rattle.std.specs.Prelude.{◌≡◌};
 ghost use Rattle.floats.specs.Arithmetic.{◌⊕◌, ◌⊖◌, ◌⊗◌, f32};
 ghost use Rattle.integrator.specs.Integrator.{saturate_of, advance_of, four_substeps_of};
 ghost use Rattle.integrator.specs.Tried.{concluded_of, tried_of, tried_after_of, with_finite_low_of};
 
 #[repr(C)]
-#[derive(Drop)]
+#[derive(Clone, Copy)]
 pub struct FilterOutputs {
     pub high_pass: f32,
     pub band_pass: f32,
@@ -14,7 +16,7 @@ pub struct FilterOutputs {
 }
 
 #[repr(C)]
-#[derive(Drop)]
+#[derive(Clone, Copy)]
 pub struct IntegratorState {
     pub band_state: f32,
     pub low_state: f32,
@@ -24,7 +26,7 @@ pub struct IntegratorState {
 // What stays the same over the substeps of one sample: the resonance's damping, the feedback's drive and the trapezoidal
 // rule's three factors.
 #[repr(C)]
-#[derive(Drop)]
+#[derive(Clone, Copy)]
 pub struct Coefficients {
     pub damping: f32,
     pub feedback_drive: f32,
@@ -35,14 +37,14 @@ pub struct Coefficients {
 
 // A substep's outputs and the state after it.
 #[repr(C)]
-#[derive(Drop)]
+#[derive(Clone, Copy)]
 pub struct Advanced {
     pub outputs: FilterOutputs,
     pub state: IntegratorState,
 }
 
 // Where substeps ended: in the finite domain, or at the first that left it.
-#[derive(Drop)]
+#[derive(Clone, Copy)]
 pub enum Substeps {
     Settled(Advanced),
     NotFinite,

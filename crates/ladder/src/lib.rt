@@ -1,4 +1,6 @@
 // The cutoff DAC's resistor ladder, from tables.rs: 12 nodes, in f64.
+#![tactic(auto)]
+
 ghost use Rattle.std.specs.Prelude.{◌≡◌, ◌<◌, length};
 ghost use Rattle.ladder.specs.Ladder.{first_row_of, next_row_of, position_of, cutoff_scale_of, sweep_of, substitute_of, solve_of, diagonal_of, right_side_of, driven_level_of, driven_levels_of};
 ghost use Rattle.ladder.specs.Ladder.{total_of, normalised_of, weights_of, value_of};
@@ -10,14 +12,14 @@ use answers::Answer;
 // ---- solve_tridiagonal
 
 // A row of the network after the elimination: x[i] + c * x[i + 1] = d.
-#[derive(Drop)]
+#[derive(Clone, Copy)]
 struct Row {
     c: f64,
     d: f64,
 }
 
 // All rows after the elimination.
-#[derive(Drop)]
+#[derive(Clone, Copy)]
 struct Swept {
     c: [f64; 12],
     d: [f64; 12],
@@ -200,7 +202,7 @@ fn value(code: usize, weights: &[f64; 12], leakage: f64) -> f64
 // ---- build_cutoff_control_positions
 
 // The cutoff DAC's weights, the level of its code 0 and the span from there to code 2,047. Its twelfth bit is tied high, so that code 0 is 2,048.
-#[derive(Drop)]
+#[derive(Clone, Copy)]
 struct Scale {
     weights: [f64; 12],
     zero: f64,
@@ -259,14 +261,14 @@ fn position_bytes(s: Scale, out: &mut [u8])
 // ---- the calls of a user
 
 // Twelve values, or a refusal beside zeros.
-#[derive(Drop)]
+#[derive(Clone, Copy)]
 pub struct Nodes {
     pub answer: Answer,
     pub values: [f64; 12],
 }
 
 // One value, or a refusal beside 0.0.
-#[derive(Drop)]
+#[derive(Clone, Copy)]
 pub struct Level {
     pub answer: Answer,
     pub value: f64,

@@ -1,4 +1,6 @@
 // The routing of sources into the filter's summer and past it to the mixer.
+#![tactic(auto)]
+
 ghost use Rattle.std.specs.Prelude.{◌≡◌, ◌+◌, ◌*◌, ◌/◌, ◌%◌, ◌<◌, ◌≤◌, eqb};
 ghost use Rattle.mixing.specs.Topology.{one as one_of, filter_count_of, reciprocal_of, topology_of};
 ghost use Rattle.mixing.specs.Routing.{filter_flags_of};
@@ -6,7 +8,7 @@ ghost use Rattle.mixing.specs.Line.{digit as digit_of, flag as flag_of, line_of}
 
 // Flags for voices 1 to 3 and the external input; what is worked out from them, so that a sample need not.
 #[repr(C)]
-#[derive(Drop)]
+#[derive(Clone, Copy)]
 pub struct MixingTopology {
     pub filter_membership: [bool; 4],
     pub bypass_membership: [bool; 4],

@@ -1,4 +1,6 @@
 // Where on its curve an amplifier stands, for a window that draws it: the summer and the mixer by their nibbles, and the summer for a state.
+#![tactic(auto)]
+
 ghost use Rattle.std.specs.Prelude.{◌≡◌};
 ghost use Rattle.filter.specs.Lent.{lent_of};
 ghost use Rattle.points.specs.Points as P;

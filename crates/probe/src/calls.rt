@@ -13,7 +13,7 @@ use response::TablePosition;
 
 // An answer by its numbers, and the value beside it.
 #[repr(C)]
-#[derive(Drop)]
+#[derive(Clone, Copy)]
 pub struct Reply {
     pub number: u32,
     pub buffer: u32,
@@ -22,7 +22,7 @@ pub struct Reply {
 }
 
 #[repr(C)]
-#[derive(Drop)]
+#[derive(Clone, Copy)]
 pub struct PointReply {
     pub reply: Reply,
     pub index: u32,
@@ -31,21 +31,21 @@ pub struct PointReply {
 
 // The other three refuse with a number alone.
 #[repr(C)]
-#[derive(Drop)]
+#[derive(Clone, Copy)]
 pub struct StepReply {
     pub number: u32,
     pub advanced: Advanced,
 }
 
 #[repr(C)]
-#[derive(Drop)]
+#[derive(Clone, Copy)]
 pub struct RouteReply {
     pub number: u32,
     pub topology: MixingTopology,
 }
 
 #[repr(C)]
-#[derive(Drop)]
+#[derive(Clone, Copy)]
 pub struct BinReply {
     pub number: u32,
     pub position: TablePosition,

@@ -15,7 +15,7 @@ use transients::TransientState;
 
 // The registers as C lays them out.
 #[repr(C)]
-#[derive(Drop)]
+#[derive(Clone, Copy)]
 pub struct Registers {
     pub cutoff: u16,
     pub displacement: u16,
@@ -29,7 +29,7 @@ pub struct Registers {
 
 // A core, valid and fresh or not.
 #[repr(C)]
-#[derive(Drop)]
+#[derive(Clone, Copy)]
 pub struct Handed {
     pub registers: Registers,
     pub integrator: IntegratorState,
@@ -40,7 +40,7 @@ pub struct Handed {
 
 // An answer by its numbers, the outputs of a sample, and the core that is handed back.
 #[repr(C)]
-#[derive(Drop)]
+#[derive(Clone, Copy)]
 pub struct Given {
     pub number: u32,
     pub buffer: u32,

@@ -1,4 +1,6 @@
 // The lower layers' functions under C names, for oracle/compare to set beside the Rust's. No product links this.
+#![tactic(auto)]
+
 mod calls;
 mod cores;
 mod steps;
@@ -159,7 +161,7 @@ pub extern "C" fn probe_controls(bundle: &[u8], block: &[u8]) -> ControlCache
 
 // What the check of a script answers.
 #[repr(C)]
-#[derive(Drop)]
+#[derive(Clone, Copy)]
 pub struct Script {
     pub refused: bool,
     pub events: usize,

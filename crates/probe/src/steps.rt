@@ -10,7 +10,7 @@ use sample::Sampled;
 
 // An answer by its numbers, the four outputs and the integrator's three numbers after the sample; zeros where it is refused.
 #[repr(C)]
-#[derive(Drop)]
+#[derive(Clone, Copy)]
 pub struct Step {
     pub number: u32,
     pub buffer: u32,

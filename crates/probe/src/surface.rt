@@ -8,7 +8,7 @@ use direct::Valued;
 
 // An answer by its numbers, and the value beside it.
 #[repr(C)]
-#[derive(Drop)]
+#[derive(Clone, Copy)]
 pub struct Value {
     pub number: u32,
     pub buffer: u32,
@@ -17,7 +17,7 @@ pub struct Value {
 }
 
 #[repr(C)]
-#[derive(Drop)]
+#[derive(Clone, Copy)]
 pub struct Load {
     pub number: u32,
     pub lower_base: usize,

@@ -1,5 +1,7 @@
 // A list of events on the core, each on the core that the last one handed back, under a C name for oracle/compare. What it writes is not stated: it is
 // proved to end, to stay in its buffers and to be total. No product links this.
+#![tactic(auto)]
+
 ghost use Rattle.std.specs.Prelude.{◌≡◌, ◌≤◌, length};
 
 use answers::Answer;

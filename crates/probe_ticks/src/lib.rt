@@ -1,4 +1,6 @@
 // A tick on a state's block under a C name, for oracle/compare and the program vectors_ticks. No product links this.
+#![tactic(auto)]
+
 ghost use Rattle.std.specs.Prelude.{◌≡◌, length};
 ghost use Rattle.control.specs.Block.{decode_of};
 ghost use Rattle.filter.specs.Lent.{lent_all, lent_of};
@@ -13,7 +15,7 @@ use turns::TickFed;
 
 // An answer by its numbers.
 #[repr(C)]
-#[derive(Drop)]
+#[derive(Clone, Copy)]
 pub struct TickReply {
     pub number: u32,
     pub buffer: u32,

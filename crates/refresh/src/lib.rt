@@ -1,5 +1,7 @@
 // The three refresh calls of the filter, each entry of the bundle read once: what is worked out of the registers, and what is refused. The core and the run share them:
 // a write judges (`judge_controls`), and what a sample reads is worked out where samples follow.
+#![tactic(auto)]
+
 ghost use Rattle.std.specs.Prelude.{◌≡◌};
 ghost use Rattle.controls.specs.Controls.{refresh_filter_controls_of};
 ghost use Rattle.controls.specs.Judging.{judge_filter_of};
@@ -13,7 +15,7 @@ use controls::{ControlCache, FilterControls, OutputControls};
 
 // The numbers of refresh_filter_controls that a sample reads beside the tables of the operating bins.
 #[repr(C)]
-#[derive(Drop)]
+#[derive(Clone, Copy)]
 pub struct CoreControls {
     pub damping: f32,
     pub source_gain_modulation: f32,
@@ -25,21 +27,21 @@ pub struct CoreControls {
 }
 
 // What a write of the cutoff or of the resonance changes for the samples that follow.
-#[derive(Drop)]
+#[derive(Clone, Copy)]
 pub struct CoreRefreshed {
     pub integrator_gain: [f32; 16],
     pub core: CoreControls,
 }
 
 // What the controls of a state refuse, and its mode's gain.
-#[derive(Drop)]
+#[derive(Clone, Copy)]
 pub struct Judged {
     pub answer: Answer,
     pub gain: f32,
 }
 
 // A state's controls, and whether working them out is refused.
-#[derive(Drop)]
+#[derive(Clone, Copy)]
 pub struct Refreshed {
     pub answer: Answer,
     pub controls: ControlCache,

@@ -1,4 +1,6 @@
 // What the programs share that replay the oracle's answers (oracle/README.md): files of records, and the line that is printed for one.
+#![tactic(auto)]
+
 mod words;
 
 ghost use Rattle.std.specs.Prelude.{◌≡◌, length};

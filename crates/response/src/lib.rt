@@ -1,4 +1,6 @@
 // The stateless laws of the analogue response: what follows from registers and levels alone.
+#![tactic(auto)]
+
 ghost use Rattle.std.specs.Prelude.{◌≡◌, ◌+◌, min, not, T, pos};
 ghost use Rattle.std.specs.Float.{binary32};
 ghost use Rattle.std.specs.Float.Ieee.{is_nan, of_int, to_unsigned};
@@ -103,7 +105,7 @@ pub fn filter_output_common_mode(mode: u8, cutoff: u16) -> f32
 
 // The two entries of a table that a position lies between, and how far it lies from the lower one.
 #[repr(C)]
-#[derive(Drop)]
+#[derive(Clone, Copy)]
 pub struct TablePosition {
     pub lower: usize,
     pub upper: usize,

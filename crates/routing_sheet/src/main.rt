@@ -1,4 +1,6 @@
 // Prints the routing sheet: a line for every routing and mode nibble, and a last line with the totals of their counts.
+#![tactic(auto)]
+
 ghost use Rattle.std.specs.Prelude.{◌≡◌, ◌≤◌, length};
 ghost use Rattle.io.specs.Counts.{IsPrefixLen};
 ghost use Rattle.text.specs.Text.{grown, grown_end};

@@ -1,4 +1,6 @@
 // A run: a script's events through the filter, on lent bytes.
+#![tactic(auto)]
+
 ghost use Rattle.std.specs.Prelude.{◌≡◌, true, length};
 ghost use Rattle.answers.specs.declared.Answer.TheVariants.{Done};
 ghost use Rattle.wire.specs.Wire.{put_at};
@@ -23,7 +25,7 @@ use sample::{Outputs, Sampled};
 use script::{Checked, DecodedEvent, Event};
 
 // What a run answers: done or its refusal, the events done and the samples written.
-#[derive(Drop)]
+#[derive(Clone, Copy)]
 pub struct Ended {
     pub answer: Answer,
     pub events: usize,
@@ -31,7 +33,7 @@ pub struct Ended {
 }
 
 // What an event asks: a sample with its two numbers, or no sample.
-#[derive(Drop)]
+#[derive(Clone, Copy)]
 pub struct Asked {
     pub sample: bool,
     pub input_sum: f32,
@@ -39,7 +41,7 @@ pub struct Asked {
 }
 
 // Where samples in a row end, by the events done and the samples written up to there, and the integrator.
-#[derive(Drop)]
+#[derive(Clone, Copy)]
 pub struct Row {
     pub answer: Answer,
     pub events: usize,
@@ -48,7 +50,7 @@ pub struct Row {
 }
 
 // What samples in a row share: of the controls the part that a sample reads, and the summer's rest.
-#[derive(Drop)]
+#[derive(Clone, Copy)]
 pub struct Parts {
     pub topology: MixingTopology,
     pub gains: [f32; 16],
@@ -58,14 +60,14 @@ pub struct Parts {
 }
 
 // The summer's rest at a count of the filter's inputs.
-#[derive(Drop)]
+#[derive(Clone, Copy)]
 pub struct Resting {
     pub inputs: usize,
     pub rest: Read,
 }
 
 // Where events in a row that are no samples end, by the events done up to there.
-#[derive(Drop)]
+#[derive(Clone, Copy)]
 pub struct Moved {
     pub answer: Answer,
     pub events: usize,
@@ -74,7 +76,7 @@ pub struct Moved {
 }
 
 // Where the events end.
-#[derive(Drop)]
+#[derive(Clone, Copy)]
 pub struct Played {
     pub answer: Answer,
     pub events: usize,

@@ -1,4 +1,6 @@
 // The filter's step for one sample: the summer, the nonlinear core, and the selection of its outputs.
+#![tactic(auto)]
+
 ghost use Rattle.std.specs.Prelude.{◌≡◌, ◌≤◌, []};
 ghost use Rattle.response.specs.Position.{operating_position_of};
 ghost use Rattle.sample.specs.Sample as S;
@@ -15,7 +17,7 @@ use response::TablePosition;
 
 // What a sample gives: the core's three outputs and what the mode selects of them.
 #[repr(C)]
-#[derive(Drop)]
+#[derive(Clone, Copy)]
 pub struct Outputs {
     pub high: f32,
     pub band: f32,
@@ -24,7 +26,7 @@ pub struct Outputs {
 }
 
 // A sample that was taken, with the state after it, or one that was refused, which leaves the state as it was.
-#[derive(Drop)]
+#[derive(Clone, Copy)]
 pub enum Sampled {
     Taken {
         outputs: Outputs,
@@ -114,7 +116,7 @@ pub fn rest_of(bundle: &[u8], topology: MixingTopology) -> Read
 }
 
 // What the core is fed: nothing where it is idle, the summer's output above its rest, or a refusal.
-#[derive(Drop)]
+#[derive(Clone, Copy)]
 pub enum CoreInput {
     Idle,
     Level(f32),

@@ -1,11 +1,13 @@
 // A run's script: its events, and the check that stands before the first of them.
+#![tactic(auto)]
+
 ghost use Rattle.std.specs.Prelude.{◌≡◌, ◌≤◌, drop};
 ghost use Rattle.script.specs.Script.{sample_count_of, decode_event_of, event_at, slices_in, tally_of, check_script_of};
 
 use answers::Answer;
 
 // What a run feeds to the filter: a register write with its value, a sample or a reset.
-#[derive(Drop)]
+#[derive(Clone, Copy)]
 pub enum Event {
     CutoffLow(u8),
     CutoffHigh(u8),
@@ -16,14 +18,14 @@ pub enum Event {
 }
 
 // What the bytes of an event stand for.
-#[derive(Drop)]
+#[derive(Clone, Copy)]
 pub enum DecodedEvent {
     Readable(Event),
     Unreadable,
 }
 
 // What the check of a script answers: how many events it has, and how many of them are samples; or its refusal.
-#[derive(Drop)]
+#[derive(Clone, Copy)]
 pub enum Checked {
     WellFormed { events: usize, samples: usize },
     Refused(Answer),

@@ -1,4 +1,6 @@
 // The C interface of include/sid_filter.h: the calls on lent bytes, with the numbers of docs/FORMATS.md for their answers.
+#![tactic(auto)]
+
 ghost use Rattle.std.specs.Prelude.{◌≡◌, length, replicate};
 ghost use Rattle.answers.specs.declared.Answer.TheVariants.{Argument};
 ghost use Rattle.answers.specs.Answers.{unless_of};
@@ -19,7 +21,7 @@ use direct::Pointed;
 
 // An answer to C: its number, the events done and the samples written by a run, and buffer and place where the table names them.
 #[repr(C)]
-#[derive(Drop)]
+#[derive(Clone, Copy)]
 pub struct RunAnswer {
     pub number: u32,
     pub events: u32,
@@ -30,7 +32,7 @@ pub struct RunAnswer {
 
 // A point to C: the answer, then the value, the index and the fraction.
 #[repr(C)]
-#[derive(Drop)]
+#[derive(Clone, Copy)]
 pub struct PointAnswer {
     pub answer: RunAnswer,
     pub point: CurvePoint,

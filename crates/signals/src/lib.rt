@@ -1,4 +1,6 @@
 // What the voices and the external input give the filter and the mixer: eight sums.
+#![tactic(auto)]
+
 ghost use Rattle.std.specs.Prelude.{◌≡◌, cond, ◌≤◌, length};
 ghost use Rattle.signals.specs.Signals as S;
 ghost use Rattle.signals.specs.Lent.{voices_of, valid_voices_of, external_of, blends_of, finite_three_at, finite_numbers_of};
@@ -11,7 +13,7 @@ use voice::VoiceSignal;
 
 // The sums, each from 0.0 on: of what the filter takes the levels, the energy and the envelopes; of what goes beside it the levels and the envelopes, and of
 // the pure voices there the envelopes, the attack drives and the envelopes of the pulses.
-#[derive(Drop)]
+#[derive(Clone, Copy)]
 pub struct RoutedSignals {
     pub filter_input_sum: f32,
     pub filter_source_energy: f32,
@@ -24,14 +26,14 @@ pub struct RoutedSignals {
 }
 
 // What a voice gives the filter.
-#[derive(Drop)]
+#[derive(Clone, Copy)]
 struct Contribution {
     source: f32,
     energy: f32,
 }
 
 // Voices 1, 2 and 3.
-#[derive(Drop)]
+#[derive(Clone, Copy)]
 pub struct Voices {
     pub one: VoiceSignal,
     pub two: VoiceSignal,
@@ -39,7 +41,7 @@ pub struct Voices {
 }
 
 // The external input as it came in, and its levels at the filter's summer and at the mixer.
-#[derive(Drop)]
+#[derive(Clone, Copy)]
 pub struct ExternalInputState {
     pub raw: f32,
     pub filter_signal: f32,

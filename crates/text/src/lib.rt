@@ -1,4 +1,6 @@
 // Text that grows in a lent buffer: what stands before a place is the text so far, what passes the end is left out, and all else stays.
+#![tactic(auto)]
+
 ghost use Rattle.std.specs.Prelude.{◌≡◌};
 ghost use Rattle.io.specs.Counts.{IsPrefixLen};
 ghost use Rattle.text.specs.Text.{decimal_of, grown, grown_end};

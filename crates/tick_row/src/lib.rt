@@ -1,4 +1,6 @@
 // Ticks in a row: what stands still between two writes is handed in once, and each tick takes the next 36 bytes of a row of voices.
+#![tactic(auto)]
+
 ghost use Rattle.std.specs.Prelude.{◌≡◌};
 ghost use Rattle.wire.specs.Wire.{put_at};
 ghost use Rattle.sample.specs.Parts.{cache_of};
@@ -12,7 +14,7 @@ use refresh::CoreControls;
 use transients::TransientState;
 
 // Where ticks in a row end: how many were taken, and what is left after them.
-#[derive(Drop)]
+#[derive(Clone, Copy)]
 pub struct TickRow {
     pub answer: Answer,
     pub ticks: usize,

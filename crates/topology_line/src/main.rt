@@ -1,4 +1,6 @@
 // Reads the routing and the mode register, two bytes, and prints the topology's line; nothing on shorter input.
+#![tactic(auto)]
+
 ghost use Rattle.std.specs.Prelude.{◌≡◌, ◌/◌, ◌%◌};
 ghost use Rattle.mixing.specs.Line.{line_of};
 

@@ -1,5 +1,7 @@
 // The mixer and the volume DAC: each is a curve of its own load, read at what it is fed. Its slot in the buffer comes from the caller.
 // A transfer is total, and the judging function beside it refuses the entries that it reads.
+#![tactic(auto)]
+
 ghost use Rattle.std.specs.Prelude.{◌≡◌};
 ghost use Rattle.transfers.specs.Transfers as T;
 

@@ -1,4 +1,6 @@
 // What the output node and the mixer still carry of earlier events (transients.rs): charges that decay, and how far each saw has settled.
+#![tactic(auto)]
+
 ghost use Rattle.std.specs.Prelude.{◌≡◌};
 ghost use Rattle.response.specs.Levels.{volume_dac_conductance_code_of};
 ghost use Rattle.transients.specs.Transients as T;
@@ -11,7 +13,7 @@ use constants::{
 
 // How far each voice's saw is bent at the mixer.
 #[repr(C)]
-#[derive(Drop)]
+#[derive(Clone, Copy)]
 pub struct SawBlends {
     pub one: f32,
     pub two: f32,
@@ -21,7 +23,7 @@ pub struct SawBlends {
 // The charges that a step of the volume, an attack beside the filter and a pulse's gate leave; the conductance of the volume last written; the activity beside the
 // filter at the last tick; the saws' settling; and whether a pulse's gate has risen and is still to be heard. The Rust's struct without its decays and its tracking.
 #[repr(C)]
-#[derive(Drop)]
+#[derive(Clone, Copy)]
 pub struct TransientState {
     pub volume_fast_charge: f32,
     pub volume_slow_charge: f32,

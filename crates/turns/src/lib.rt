@@ -1,4 +1,6 @@
 // Ticks on a core, beside its events: a tick is one more turn of the machine, and hands the next core back.
+#![tactic(auto)]
+
 ghost use Rattle.std.specs.Prelude.{◌≡◌, []};
 ghost use Rattle.filter.specs.Lent.{lent_all};
 ghost use Rattle.turns.specs.Turns as T;
@@ -9,7 +11,7 @@ use control::State;
 use filter::{Core, Written};
 
 // What a tick answers, with the outputs of one that was taken, and zeros in any other case.
-#[derive(Drop)]
+#[derive(Clone, Copy)]
 pub struct TickFed {
     pub answer: Answer,
     pub outputs: TickOutputs,

@@ -1,8 +1,10 @@
 // Replays the oracle's answers (oracle/README.md) at whole loads, and for the summer at rest, on bundles of zeros but for the header and four entries that a
 // record tells. Prints a line for each file: its name, how many of its records agree, and how many it has.
+#![tactic(auto)]
+
 
 // What a record asks for, behind its entries.
-#[derive(Drop)]
+#[derive(Clone, Copy)]
 enum Kind {
     WholeLoads,
     ZeroSigns,

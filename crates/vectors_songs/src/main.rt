@@ -1,5 +1,7 @@
 // Replays a song (oracle/README.md) through runs on the bundle, the curves built from it and the decays, and prints a line for each file: its name, how many of its
 // pieces agree, and how many it has.
+#![tactic(auto)]
+
 mod song;
 
 fn main() {

@@ -1,11 +1,13 @@
 // Replays the oracle's answers (oracle/README.md) for the bundle, the curves built from it and the filter's core on both, and prints a
 // line for each file: its name, how many of its records agree, and how many it has.
+#![tactic(auto)]
+
 mod core;
 mod curve_points;
 mod surface;
 
 // What a record asks for. Each kind has a file, and a function that says whether one of its records agrees.
-#[derive(Drop)]
+#[derive(Clone, Copy)]
 enum Kind {
     Words,
     AnalogueLoadPosition,

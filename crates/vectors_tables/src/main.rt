@@ -1,9 +1,11 @@
 // Replays the oracle's answers (oracle/README.md) through ladder, and prints a line for each file: its name, how many of its records
 // agree, and how many it has.
+#![tactic(auto)]
+
 mod dac;
 
 // What a record asks for. Each kind has a file, and a function that says whether one of its records agrees.
-#[derive(Drop)]
+#[derive(Clone, Copy)]
 enum Kind {
     SolveTridiagonal,
     LadderWeights,

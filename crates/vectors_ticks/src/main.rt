@@ -1,8 +1,10 @@
 // Replays the oracle's ticks (oracle/README.md): what each answers, the four numbers and the block after it, also where entries of bundle and curves are damaged.
 // Prints a line for each file: its name, how many of its records agree, and how many it has.
+#![tactic(auto)]
+
 
 // What a record has around a tick.
-#[derive(Drop)]
+#[derive(Clone, Copy)]
 enum Kind {
     Ticks,
     TicksDamaged,

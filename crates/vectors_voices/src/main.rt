@@ -1,8 +1,10 @@
 // Replays the oracle's answers (oracle/README.md) on voices: the eight sums of the Rust's `collect`, and what is refused. Prints a line for each file: its name, how
 // many of its records agree, and how many it has.
+#![tactic(auto)]
+
 
 // What a record tells behind its nibbles, voices and numbers.
-#[derive(Drop)]
+#[derive(Clone, Copy)]
 enum Kind {
     Collect,
     CollectRefused,

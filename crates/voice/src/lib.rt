@@ -1,10 +1,12 @@
 // A voice as the waveform and envelope DACs hand it over: its 12 bytes, and its level at the filter's summer and at the mixer.
+#![tactic(auto)]
+
 ghost use Rattle.std.specs.Prelude.{◌≡◌};
 ghost use Rattle.voice.specs.Voice.{voice_at, valid_voice_at};
 ghost use Rattle.voice.specs.Levels.{source_resting_of, filter_voice_signal_of, mixer_waveform_of, mixer_voice_signal_of};
 
 // The levels of the two DACs, the number of the selected waveforms, whether they are a combination, and whether the waveform DAC stands still.
-#[derive(Drop)]
+#[derive(Clone, Copy)]
 pub struct VoiceSignal {
     pub waveform: f32,
     pub envelope: f32,
