@@ -25,7 +25,7 @@ pub fn step(
     output: &mut [u8],
     line: &mut [u8],
 ) -> Stepped
-    ensures line_value { step_of (lentAll bundle.now curves.now decays.now) state.old name.now script.now output.old line.old
+    ensures line_value { step_of (lent_all bundle.now curves.now decays.now) state.old name.now script.now output.old line.old
         ≡ record { stepped = result; state = state.new; output = output.new; line = line.new } }
     ensures prefix_len { IsPrefixLen result.samples output.new }
     ensures prefix_len_2 { IsPrefixLen result.line line.new }

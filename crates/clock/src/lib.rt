@@ -427,8 +427,8 @@ pub fn tick_from_parts(
     transients: TransientState,
     voices: Voices,
 ) -> Ticked
-    ensures { result ≡ C.tickFromPartsOf curves.now
-        (cacheOf gains.now input_drives.now feedback_drives.now core mode_output_gain)
+    ensures { result ≡ C.tick_from_parts_of curves.now
+        (cache_of gains.now input_drives.now feedback_drives.now core mode_output_gain)
         rest settings integrator transients voices }
 {
     let slots = settings.slots;

@@ -3,7 +3,7 @@ use mathlib.Core.Path.{◌≡◌, refl, ap, ◌∙◌}
 use mathlib.Core.Bool.{Bool, false}
 use mathlib.Core.List.{List, [], ◌∷◌}
 use Prim.Native.Nat.{ℕ, zero, suc, ◌+◌, ◌/◌, ◌%◌, ◌<◌}
-use native.Mathlib.Nat.{add-zero, zero-add, add_suc, suc-add, le_of_suc-le-suc, not-suc-le-zero, mod-lt}
+use native.Mathlib.Nat.{add-zero, zero-add, add-suc, suc-add, le_of_suc-le-suc, not-suc-le-zero, mod-lt}
 use native.Mathlib.Omega.{arith}
 use lib.ListN.{get_or}
 use Rattle.constants.specs.Tables.{NoneOf}
@@ -24,7 +24,7 @@ rows_are_bits = refl
 bit_row : (nibble n k : ℕ) → k < n → get_or (bit_rows nibble n) k [] ≡ flags_of (bit (nibble + k))
 bit_row nibble zero k h = absurd (not-suc-le-zero h)
 bit_row nibble (suc n) zero h = rw (add-zero nibble) refl
-bit_row nibble (suc n) (suc k) h = bit_row (suc nibble) n k (le_of_suc-le-suc h) ∙ rw (suc-add nibble k, add_suc nibble k) refl
+bit_row nibble (suc n) (suc k) h = bit_row (suc nibble) n k (le_of_suc-le-suc h) ∙ rw (suc-add nibble k, add-suc nibble k) refl
 
 low_row : (routing : ℕ) → filter_flags_of routing ≡ flags_of (bit (routing % 16))
 unfolding filter_flags_of

@@ -128,16 +128,16 @@ pub extern "C" fn probe_tick(
     voices: &[u8],
     output: &mut [u8],
 ) -> TickReply
-    ensures value { result ≡ T.tickReplyOf
-        (T.blockTickOf (lentAll bundle.now curves.now decays.now) levels.now voices.now (length output.old)
-        (decodeOf state.old)) }
-    ensures state_after { state.new ≡ T.tickedBlockOf
-        (T.blockTickOf (lentAll bundle.now curves.now decays.now) levels.now voices.now (length output.old)
-        (decodeOf state.old))
+    ensures value { result ≡ T.tick_reply_of
+        (T.block_tick_of (lent_all bundle.now curves.now decays.now) levels.now voices.now (length output.old)
+        (decode_of state.old)) }
+    ensures state_after { state.new ≡ T.ticked_block_of
+        (T.block_tick_of (lent_all bundle.now curves.now decays.now) levels.now voices.now (length output.old)
+        (decode_of state.old))
         state.old }
-    ensures output_after { output.new ≡ T.tickedOutputOf
-        (T.blockTickOf (lentAll bundle.now curves.now decays.now) levels.now voices.now (length output.old)
-        (decodeOf state.old))
+    ensures output_after { output.new ≡ T.ticked_output_of
+        (T.block_tick_of (lent_all bundle.now curves.now decays.now) levels.now voices.now (length output.old)
+        (decode_of state.old))
         output.old }
 {
     let ticked = block_tick(bundle, curves, decays, levels, voices, state, output.len());

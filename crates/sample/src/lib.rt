@@ -370,8 +370,8 @@ pub fn sample_from_parts(
     input_sum: f32,
     source_energy: f32,
 ) -> Sampled
-    ensures { result ≡ P.sampleFromPartsOf curves.now slot topology
-        (P.cacheOf gains.now input_drives.now feedback_drives.now core mode_output_gain)
+    ensures { result ≡ P.sample_from_parts_of curves.now slot topology
+        (P.cache_of gains.now input_drives.now feedback_drives.now core mode_output_gain)
         rest mode s input_sum source_energy }
 {
     let count = topology.filter_output_count;

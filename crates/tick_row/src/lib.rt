@@ -60,8 +60,8 @@ fn voiced_tick(
     transients: TransientState,
     voices: &[u8],
 ) -> Ticked
-    ensures { result ≡ T.voicedTickOf curves.now
-        (cacheOf gains.now input_drives.now feedback_drives.now core mode_output_gain)
+    ensures { result ≡ T.voiced_tick_of curves.now
+        (cache_of gains.now input_drives.now feedback_drives.now core mode_output_gain)
         rest settings integrator transients voices.now }
 {
     if signals::valid_voices(voices) {
@@ -101,11 +101,11 @@ pub fn play_ticks(
     voices: &[u8],
     output: &mut [u8],
 ) -> TickRow
-    ensures value { result ≡ T.ticksEnd 0 (T.ticksIn curves.now
-        (cacheOf gains.now input_drives.now feedback_drives.now core mode_output_gain)
+    ensures value { result ≡ T.ticks_end 0 (T.ticks_in curves.now
+        (cache_of gains.now input_drives.now feedback_drives.now core mode_output_gain)
         rest settings from held voices.now output.old) }
-    ensures output_after { output.new ≡ put_at output.old 0 (T.allTickBytes (T.ticksIn curves.now
-        (cacheOf gains.now input_drives.now feedback_drives.now core mode_output_gain)
+    ensures output_after { output.new ≡ put_at output.old 0 (T.all_tick_bytes (T.ticks_in curves.now
+        (cache_of gains.now input_drives.now feedback_drives.now core mode_output_gain)
         rest settings from held voices.now output.old).outputs) }
 {
     let count = tick_count(voices.len(), output.len());

@@ -1,7 +1,7 @@
 -- The conductance of a volume: the sixteen values that the code has are the formula's, and each is finite. Assumes nothing.
 use Prim.Native.Nat.{ℕ, zero, suc, ◌+◌, ◌/◌, ◌%◌, ◌<◌}
 use native.Mathlib.Omega.{arith}
-use native.Mathlib.Nat.{add-zero, zero-add, suc-add, add_suc, not-suc-le-zero, le_of_suc-le-suc, mod-lt}
+use native.Mathlib.Nat.{add-zero, zero-add, suc-add, add-suc, not-suc-le-zero, le_of_suc-le-suc, mod-lt}
 use mathlib.Core.Path.{◌≡◌, refl, ap, ◌∙◌}
 use mathlib.Core.Bool.{Bool, true, false}
 use mathlib.Core.List.{List, [], ◌∷◌}
@@ -49,7 +49,7 @@ formula_at : (volume n k : ℕ) → k < n → get_or (formula_from volume n) k n
 unfolding formula_from
 formula_at volume zero k h = absurd (not-suc-le-zero h)
 formula_at volume (suc n) zero h = rw (add-zero volume) refl
-formula_at volume (suc n) (suc k) h = formula_at (suc volume) n k (le_of_suc-le-suc h) ∙ rw (suc-add volume k, add_suc volume k) refl
+formula_at volume (suc n) (suc k) h = formula_at (suc volume) n k (le_of_suc-le-suc h) ∙ rw (suc-add volume k, add-suc volume k) refl
 
 -- the lower four bits count
 low_bits : (volume : ℕ) → volume_dac_conductance_code_of (volume % 16) ≡ volume_dac_conductance_code_of volume

@@ -1,0 +1,5 @@
+use borrow.Author.Rules.{rules}
+use Rattle.ladder.proofs.judge.Goals as goal
+
+pub returns : goal.returns
+returns c = simp (c.first.ensures, c.unless-2.ensures, c.unless.ensures)

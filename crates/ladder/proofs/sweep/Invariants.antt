@@ -1,0 +1,17 @@
+-- The invariant: row is row i - 1, and the first i entries of both arrays are those of the rows.
+use Prim.Native.Nat.{◌+◌, ◌-◌, ◌≤◌}
+use mathlib.Core.Path.{◌≡◌, refl, ap, ◌∙◌}
+use native.Mathlib.Omega.{arith}
+use lib.ListN.{replicate}
+use borrow.Author.Rules.{rules}
+use Rattle.ladder.specs.Ladder.{row_at}
+use Rattle.ladder.specs.declared.Row.{Row}
+use Rattle.ladder.proofs.Laws.{Filled, filled_none, filled_up, filled_all, row_next}
+use Rattle.ladder.proofs.sweep.Given as goal
+
+abbrev pub invariant-loop-i : goal.invariant-loop-i
+invariant-loop-i l =
+    (1 ≤ l.i) × (l.i ≤ 12) × (l.row ≡ row_at l.lower l.diagonal l.upper l.rhs (l.i - 1)) × Filled (λ k. (row_at l.lower l.diagonal l.upper l.rhs k).c) 0 l.i l.c × Filled (λ k. (row_at l.lower l.diagonal l.upper l.rhs k).d) 0 l.i l.d
+
+abbrev pub decreases-loop-i : goal.decreases-loop-i
+decreases-loop-i l = 12 - l.i

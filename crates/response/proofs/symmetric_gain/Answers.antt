@@ -1,0 +1,7 @@
+use Rattle.response.specs.Gain.{symmetric_gain_of}
+use borrow.Author.Rules.{rules}
+use Rattle.response.proofs.symmetric_gain.Goals as goal
+
+pub returns : goal.returns
+unfolding symmetric_gain_of
+returns c = simp (c.interpolate.ensures, c.symmetric_loading_gain-upper.ensures, c.symmetric_loading_gain-lower.ensures, c.loading_position-at.ensures)
