@@ -1,0 +1,22 @@
+-- The invariant: each byte of the words passed is the header's.
+use Prim.Native.Nat.{ℕ, ◌+◌, ◌-◌, ◌*◌, ◌≤◌, ◌<◌}
+use mathlib.Core.Path.{◌≡◌, refl, sym, ap}
+use mathlib.Core.Bool.{true}
+use mathlib.Core.List.{List, ◌∷◌}
+use lib.ListN.{get_or}
+use mathlib.Core.Logic.{⊎_elim}
+use native.Mathlib.Omega.{arith}
+use borrow.Author.Count.{below_none}
+use borrow.Author.Rules.{rules}
+use borrow.Author.Tests.{not-false}
+use Rattle.wire.proofs.Laws.{le_or_lt}
+use Rattle.wire.proofs.First.{first_is}
+use Rattle.bundle.specs.Layout.{bundle_length, header_length, sections, pairs}
+use Rattle.bundle.specs.Opening.{header_byte}
+use Rattle.bundle.proofs.first_difference.Given as goal
+
+abbrev pub invariant-loop-k : goal.invariant-loop-k
+invariant-loop-k l = (l.k ≤ 14) × (l.header ≡ bundle_length ∷ 6 ∷ pairs sections) × ((i : ℕ) → i < 4 * l.k → header_byte l.bundle i ≡ true)
+
+abbrev pub decreases-loop-k : goal.decreases-loop-k
+decreases-loop-k l = 14 - l.k

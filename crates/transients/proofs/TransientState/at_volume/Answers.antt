@@ -1,0 +1,5 @@
+use borrow.Author.Rules.{rules}
+use Rattle.transients.proofs.TransientState.at_volume.Goals as goal
+
+pub returns : goal.returns
+returns c = rw (c.conductance.ensures, c.new-still.ensures)

@@ -1,0 +1,5 @@
+use borrow.Author.Rules.{rules}
+use Rattle.transients.proofs.TransientState.charge.Goals as goal
+
+pub returns : goal.returns
+returns c = rw (c.conductance-full.ensures, c.conductance-next.ensures)
