@@ -1,0 +1,6 @@
+use Rattle.control.proofs.Laws.{lowest}
+use borrow.Author.Rules.{rules}
+use Rattle.control.proofs.FilterRegisters.write_cutoff_low.Goals as goal
+
+pub returns : goal.returns
+returns c = rw (lowest 3 c.args.value)

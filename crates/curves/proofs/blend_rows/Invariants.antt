@@ -1,0 +1,24 @@
+-- The invariant: the first k entries stand at the front of the row.
+use Prim.Native.Nat.{ℕ, ◌-◌, ◌*◌, ◌≤◌}
+use mathlib.Core.Path.{◌≡◌, refl, ap, ◌∙◌}
+use mathlib.Core.List.{List}
+use lib.Ieee.{Float}
+use native.Mathlib.Omega.{arith}
+use lib.ListN.{length}
+use borrow.Author.Rules.{rules}
+use Rattle.wire.specs.Wire.{float_bytes, put_at, rows}
+use Rattle.curves.specs.Inner.{row_length, blend_of, blend_rows_of}
+use Rattle.wire.proofs.Laws.{front_none, front_more, front_all}
+use Rattle.wire.proofs.Floats.{length-float_bytes}
+use Rattle.curves.proofs.Building.{last_again}
+use Rattle.curves.proofs.blend_rows.Given as goal
+
+abbrev pub bytes : List ℕ → List ℕ → Float → ℕ → ℕ → List ℕ
+bytes lower upper fraction curve k = float_bytes (blend_of lower upper fraction curve k)
+
+abbrev pub invariant-loop-k : goal.invariant-loop-k
+invariant-loop-k l =
+    (l.k ≤ 2048) × (length l.row ≡ length l.initial.row) × (l.row ≡ put_at l.initial.row 0 (rows (bytes l.lower l.upper l.fraction l.curve) l.k))
+
+abbrev pub decreases-loop-k : goal.decreases-loop-k
+decreases-loop-k l = 2048 - l.k

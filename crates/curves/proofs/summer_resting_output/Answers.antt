@@ -1,0 +1,12 @@
+use borrow.Author.Tests.{le-leb, lt-leb}
+use Rattle.curves.specs.Sampling.{summer_resting_output_of}
+use borrow.Author.Rules.{rules}
+use Rattle.curves.proofs.summer_resting_output.Goals as goal
+
+pub returns-then-count-ge2 : goal.returns-then-count-ge2
+unfolding summer_resting_output_of
+returns-then-count-ge2 c = simp (le-leb _ _ c.if-count-ge2.true, c.sample.ensures, c.filter_mode_quiescent_level.ensures, c.of_u16.ensures)
+
+pub returns : goal.returns
+unfolding summer_resting_output_of
+returns c = rw (lt-leb _ _ c.if-count-ge2.false)
