@@ -1,0 +1,7 @@
+use Rattle.transfers.specs.Transfers.{judge_volume_of}
+use borrow.Author.Rules.{rules}
+use Rattle.transfers.proofs.judge_volume.Goals as goal
+
+pub returns : goal.returns
+unfolding judge_volume_of
+returns c = simp c.judge_sample_curve.ensures
