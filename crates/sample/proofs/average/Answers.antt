@@ -1,0 +1,5 @@
+use borrow.Author.Rules.{rules}
+use Rattle.sample.proofs.average.Goals as goal
+
+pub returns : goal.returns
+returns c = simp c.filter_mode_quiescent_level.ensures
