@@ -1,0 +1,7 @@
+use Rattle.filter.specs.Core.{judge_core_of}
+use borrow.Author.Rules.{rules}
+use Rattle.filter.proofs.Core.judge.Goals as goal
+
+pub returns : goal.returns
+unfolding judge_core_of
+returns c = simp (c.unless.ensures, c.sound.ensures, c.countable.ensures, c.is_valid.ensures)

@@ -1,0 +1,5 @@
+use borrow.Author.Rules.{rules}
+use Rattle.filter.proofs.sound.Goals as goal
+
+pub returns : goal.returns
+returns c = simp c.finite_controls.ensures
