@@ -1,0 +1,5 @@
+use borrow.Author.Rules.{rules}
+use Rattle.points.proofs.refused.Goals as goal
+
+pub returns : goal.returns
+returns c = simp c.no_point.ensures
