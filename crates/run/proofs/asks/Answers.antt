@@ -1,0 +1,5 @@
+use borrow.Author.Rules.{rules}
+use Rattle.run.proofs.asks.Goals as goal
+
+pub returns-in-Sample : goal.returns-in-Sample
+returns-in-Sample c = simp c.in-Sample.is

@@ -1,0 +1,84 @@
+use Prim.Native.Nat.{◌-◌}
+use native.Mathlib.Omega.{arith}
+use mathlib.Core.Path.{sym, ◌∙◌}
+use borrow.Author.Rules.{rules}
+use Rattle.sample.proofs.Finite.{outputs_finite_lem}
+use Rattle.run.specs.Parts.{cache_of_parts}
+use Rattle.run.proofs.Rows.{parts_sample, Sofar, sofar_start, unreadable, other, refused, turned, at_end}
+use Rattle.run.proofs.play_samples.Goals as goal
+
+pub parts_of-parts-requires : goal.parts_of-parts-requires
+parts_of-parts-requires c = c.requires.given
+
+pub loop-i-init : goal.loop-i-init
+loop-i-init c =
+    let z = c.requires in
+    sofar_start _ _ _ _ _ _ _ _ _ _ _ z.ahead.within z.room.fewer z.ahead.readable z.room.room
+
+pub returns-in_default : goal.returns-in_default
+returns-in_default c = absurd (unreadable _ _ _ _ _ _ _ _ _ _ _ _ _ _ _ c.loop-i.invariant c.loop-i-test.true (sym c.event_at.ensures ∙ c.in_default.is))
+
+pub overflow_mul-samples : goal.overflow_mul-samples
+overflow_mul-samples c =
+    let few = c.loop-i.invariant.few in
+    let within = c.loop-i.invariant.within in
+    let most = c.requires.ahead.few in
+    record { fits = omega arith }
+
+pub put_outputs-requires : goal.put_outputs-requires
+put_outputs-requires c =
+    outputs_finite_lem _ _ _ _ _ _ _ _ _ _ _
+    (c.sample_from_parts.ensures ∙ parts_sample _ _ _ c.parts_of-parts.ensures _
+    c.input_drives-input_drives.ensures c.feedback_drives-feedback_drives.ensures c.summer_slot-slot.ensures _ _ _)
+    c.in-Taken.is
+
+pub overflow_add-samples : goal.overflow_add-samples
+overflow_add-samples c =
+    let few = c.loop-i.invariant.few in
+    let within = c.loop-i.invariant.within in
+    let most = c.requires.ahead.few in
+    record { fits = omega arith }
+
+pub overflow_add-i-in-Taken : goal.overflow_add-i-in-Taken
+overflow_add-i-in-Taken c =
+    let few = c.loop-i.invariant.few in
+    let within = c.loop-i.invariant.within in
+    let most = c.requires.ahead.few in
+    record { fits = omega arith }
+
+pub loop-i-smaller : goal.loop-i-smaller
+loop-i-smaller c =
+    let more = c.loop-i-test.true in
+    omega arith
+
+pub loop-i-preserved : goal.loop-i-preserved
+loop-i-preserved c =
+    rw c.put_outputs.ensures
+    (turned _ _ _ _ _ _ _ _ _ _ _ _ _ _ _ c.loop-i.invariant c.loop-i-test.true c.in-Readable.event (sym c.event_at.ensures ∙ c.in-Readable.is)
+    c.asks-ask.ensures c.if-ask.true _ _
+    (c.sample_from_parts.ensures ∙ parts_sample _ _ _ c.parts_of-parts.ensures _
+    c.input_drives-input_drives.ensures c.feedback_drives-feedback_drives.ensures c.summer_slot-slot.ensures _ _ _)
+    c.in-Taken.is)
+
+pub returns-in-Refused : goal.returns-in-Refused
+returns-in-Refused c =
+    rw (← c.parts_of-parts.ensures)
+    (let told = refused _ _ _ _ _ _ _ _ _ _ _ _ _ _ _ c.loop-i.invariant c.loop-i-test.true c.in-Readable.event (sym c.event_at.ensures ∙ c.in-Readable.is)
+    c.asks-ask.ensures c.if-ask.true _
+    (c.sample_from_parts.ensures ∙ parts_sample _ _ _ c.parts_of-parts.ensures _
+    c.input_drives-input_drives.ensures c.feedback_drives-feedback_drives.ensures c.summer_slot-slot.ensures _ _ _)
+    c.in-Refused.is in
+    record { value = told.0; output_after = told.1 })
+
+pub returns-else-ask : goal.returns-else-ask
+returns-else-ask c =
+    rw (← c.parts_of-parts.ensures)
+    (let told = other _ _ _ _ _ _ _ _ _ _ _ _ _ _ _ c.loop-i.invariant c.loop-i-test.true c.in-Readable.event
+    (sym c.event_at.ensures ∙ c.in-Readable.is) c.asks-ask.ensures c.if-ask.false in
+    record { value = told.0; output_after = told.1 })
+
+pub returns : goal.returns
+returns c =
+    rw (← c.parts_of-parts.ensures)
+    (let told = at_end _ _ _ _ _ _ _ _ _ _ _ _ _ _ _ c.loop-i.invariant c.loop-i-test.false in
+    record { value = told.0; output_after = told.1 })

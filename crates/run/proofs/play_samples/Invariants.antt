@@ -1,0 +1,15 @@
+use Prim.Native.Nat.{◌-◌}
+use native.Mathlib.Omega.{arith}
+use mathlib.Core.Path.{sym, ◌∙◌}
+use borrow.Author.Rules.{rules}
+use Rattle.sample.proofs.Finite.{outputs_finite_lem}
+use Rattle.run.specs.Parts.{cache_of_parts}
+use Rattle.run.proofs.Rows.{parts_sample, Sofar, sofar_start, unreadable, other, refused, turned, at_end}
+use Rattle.run.proofs.play_samples.Given as goal
+
+abbrev pub invariant-loop-i : goal.invariant-loop-i
+invariant-loop-i l =
+    Sofar l.bundle l.curves l.parts.topology (cache_of_parts l.parts) l.registers.mode l.script l.count l.start l.before l.initial.output l.initial.integrator l.output l.integrator l.samples l.i
+
+abbrev pub decreases-loop-i : goal.decreases-loop-i
+decreases-loop-i l = l.count - l.i

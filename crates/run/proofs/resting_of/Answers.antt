@@ -1,0 +1,5 @@
+use borrow.Author.Rules.{rules}
+use Rattle.run.proofs.resting_of.Goals as goal
+
+pub returns : goal.returns
+returns c = simp c.rest_of.ensures
