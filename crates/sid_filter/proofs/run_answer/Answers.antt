@@ -1,0 +1,5 @@
+use borrow.Author.Rules.{rules}
+use Rattle.sid_filter.proofs.run_answer.Goals as goal
+
+pub returns : goal.returns
+returns c = simp c.report-told.ensures

@@ -1,0 +1,10 @@
+use mathlib.Core.Path.{refl}
+use lib.ListN.{replicate}
+use Rattle.wire.proofs.Laws.{put_at-whole}
+use borrow.Author.Rules.{rules}
+use Rattle.sid_filter.proofs.tried.Goals as goal
+
+pub returns : goal.returns
+returns c =
+    let copied = put_at-whole (replicate 68 0) c.args.block.now c.requires in
+    rw (c.sid_filter_run.ensures.value, c.put.ensures, copied) refl
