@@ -1,0 +1,5 @@
+use borrow.Author.Rules.{rules}
+use Rattle.probe.proofs.calls.point_numbers.Goals as goal
+
+pub returns : goal.returns
+returns c = simp c.numbers.ensures

@@ -1,0 +1,7 @@
+use Rattle.probe.specs.Steps.{fresh_sample_of}
+use borrow.Author.Rules.{rules}
+use Rattle.probe.proofs.steps.sampled.Goals as goal
+
+pub returns : goal.returns
+unfolding fresh_sample_of
+returns c = simp (c.filter_sample.ensures, c.summer_slot.ensures, c.refresh-fresh.ensures, c.update-topology.ensures)
