@@ -1,0 +1,7 @@
+use Rattle.activity.specs.Activity.{two_voice_activity_of}
+use borrow.Author.Rules.{rules}
+use Rattle.activity.proofs.two_voice_activity.Goals as goal
+
+pub returns : goal.returns
+unfolding two_voice_activity_of
+returns c = simp c.clamp.ensures
