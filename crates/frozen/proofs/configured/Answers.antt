@@ -1,0 +1,11 @@
+use Rattle.frozen.specs.Frozen.{configured_of}
+use borrow.Author.Rules.{rules}
+use Rattle.frozen.proofs.configured.Goals as goal
+
+pub returns : goal.returns
+unfolding configured_of
+returns c = simp (
+  c.stands-3.ensures,
+  c.stands-2.ensures,
+  c.stands.ensures,
+)

@@ -1,0 +1,17 @@
+use Prim.Native.Nat.{◌-◌, ◌≤◌}
+use mathlib.Core.Path.{◌≡◌, refl, sym, ◌∙◌}
+use native.Mathlib.Omega.{arith}
+use lib.ListN.{length, drop}
+use lib.Ieee.{neg, of_bits}
+use borrow.Author.Rules.{rules}
+use Rattle.frozen.specs.Frozen.{terms_of, weighted_sum_of, frozen_dac_operating_point_of}
+use Rattle.frozen.proofs.Laws.{one_row, no_row}
+use Rattle.frozen.proofs.frozen_dac_operating_point.Given as goal
+
+-- the rows and terms from i on are still to be added
+abbrev pub invariant-loop-i : goal.invariant-loop-i
+invariant-loop-i l =
+    (l.i ≤ 11) × (length l.rows ≡ 11) × (length l.terms ≡ 11) × (frozen_dac_operating_point_of l.mode l.volume ≡ weighted_sum_of l.x l.sum (drop l.i l.rows) (drop l.i l.terms))
+
+abbrev pub decreases-loop-i : goal.decreases-loop-i
+decreases-loop-i l = 11 - l.i

@@ -1,0 +1,5 @@
+use borrow.Author.Rules.{rules}
+use Rattle.frozen.proofs.volume_position.Goals as goal
+
+pub returns : goal.returns
+returns c = simp c.of_u16.ensures
