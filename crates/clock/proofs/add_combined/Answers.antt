@@ -1,0 +1,5 @@
+use borrow.Author.Rules.{rules}
+use Rattle.clock.proofs.add_combined.Goals as goal
+
+pub returns-then-signal : goal.returns-then-signal
+returns-then-signal c = simp c.if-signal.true

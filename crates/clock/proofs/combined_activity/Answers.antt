@@ -1,0 +1,12 @@
+use Rattle.clock.specs.Transients.{combined_activity_of}
+use lib.Ieee.{neg, of_bits}
+use borrow.Author.Rules.{rules}
+use Rattle.clock.proofs.combined_activity.Goals as goal
+
+pub returns : goal.returns
+unfolding combined_activity_of neg of_bits
+returns c = simp (
+  c.add_combined-3.ensures,
+  c.add_combined-2.ensures,
+  c.add_combined.ensures,
+)

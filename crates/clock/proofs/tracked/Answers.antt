@@ -1,0 +1,5 @@
+use borrow.Author.Rules.{rules}
+use Rattle.clock.proofs.tracked.Goals as goal
+
+pub returns : goal.returns
+returns c = simp c.tracked_blends-blends.ensures
