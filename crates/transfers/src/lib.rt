@@ -60,7 +60,8 @@ pub fn judge_mixer(curves: &[u8], slot: u8, topology: MixingTopology, input_sum:
 pub fn read_mixer(curves: &[u8], slot: u8, topology: MixingTopology, input_sum: f32) -> Read
     ensures { result ≡ T.read_mixer_of curves.now slot topology input_sum }
 {
-    if topology.mixer_input_count <= 7 {
+    let count = topology.mixer_input_count;
+    if count <= 7 {
         return curves::read_curve(curves, slot, mixer_average(topology, input_sum));
     }
     Read::Refused(Answer::Argument)

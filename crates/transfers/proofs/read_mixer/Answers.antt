@@ -4,14 +4,14 @@ use borrow.Author.Rules.{rules}
 use borrow.Author.Tests.{le-leb, lt-leb}
 use Rattle.transfers.proofs.read_mixer.Goals as goal
 
-pub returns-then-topology-le7 : goal.returns-then-topology-le7
+pub returns-then-count-le7 : goal.returns-then-count-le7
 unfolding read_mixer_of judge_mixer_of mixer_transfer_of read_of
-returns-then-topology-le7 c = simp (
+returns-then-count-le7 c = simp (
   c.read_curve.ensures,
   c.mixer_average.ensures,
-  le-leb _ _ c.if-topology-le7.true,
+  le-leb _ _ c.if-count-le7.true,
 )
 
 pub returns : goal.returns
 unfolding read_mixer_of judge_mixer_of mixer_transfer_of read_of
-returns c = simp (lt-leb _ _ c.if-topology-le7.false)
+returns c = simp (lt-leb _ _ c.if-count-le7.false)
