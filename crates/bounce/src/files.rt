@@ -144,5 +144,20 @@ pub(crate) fn fail(rt: &HostRuntime, what: &[u8], why: Error) {
     let out = rt.stderr();
     let _ = Print::write_all(&out, what);
     let _ = out.print(": ");
-    let _ = out.println(why);
+    match format!(in rt.alloc(); "{why}") {
+        Ok(text) => {
+            let _ = out.println(reason(text.as_str()));
+        }
+        Err(_) => {
+            let _ = out.println(why);
+        }
+    }
+}
+
+// The system's words for an error, after which std writes the error's number.
+fn reason(text: &str) -> &str {
+    match text.split_once(" (os error ") {
+        Some((words, _)) => words,
+        None => text,
+    }
 }
