@@ -1,9 +1,6 @@
 -- The invariant: the names are the same where what is left of them is.
-use Prim.Native.Nat.{◌-◌, ◌≤◌}
-use mathlib.Core.Path.{◌≡◌, refl, sym, ◌∙◌}
-use lib.ListN.{length, drop}
+use mathlib.Core.Path.{refl, sym, ◌∙◌}
 use borrow.Author.Rules.{rules}
-use Rattle.bounce_lines.specs.Names.{same_name_of}
 use Rattle.bounce_lines.proofs.Laws.{names_unlike, names_on, names_off, names_end}
 use Rattle.bounce_lines.proofs.same_name.Goals as goal
 

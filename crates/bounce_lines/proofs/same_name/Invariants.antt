@@ -1,10 +1,8 @@
 -- The invariant: the names are the same where what is left of them is.
 use Prim.Native.Nat.{◌-◌, ◌≤◌}
-use mathlib.Core.Path.{◌≡◌, refl, sym, ◌∙◌}
+use mathlib.Core.Path.{◌≡◌}
 use lib.ListN.{length, drop}
-use borrow.Author.Rules.{rules}
 use Rattle.bounce_lines.specs.Names.{same_name_of}
-use Rattle.bounce_lines.proofs.Laws.{names_unlike, names_on, names_off, names_end}
 use Rattle.bounce_lines.proofs.same_name.Given as goal
 
 abbrev pub invariant-loop-i : goal.invariant-loop-i

@@ -1,5 +1,4 @@
 use borrow.Author.Tests.{eq-eqb, ne_eqb}
-use borrow.Author.Rules.{rules}
 use Rattle.replay.specs.Records.{record_count_of}
 use Rattle.replay.proofs.count.Goals as goal
 

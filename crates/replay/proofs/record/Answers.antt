@@ -1,5 +1,4 @@
 use native.Mathlib.Omega.{arith}
-use borrow.Author.Rules.{rules}
 use Rattle.replay.proofs.Laws.{inside, record_is, record_none}
 use Rattle.replay.proofs.record.Goals as goal
 

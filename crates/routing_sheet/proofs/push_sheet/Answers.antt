@@ -1,14 +1,12 @@
 -- The invariant: the lines of the first k pairs are written, and three of their counts are summed up.
-use Prim.Native.Nat.{◌-◌, ◌≤◌}
-use mathlib.Core.Path.{◌≡◌, refl, ap}
+use mathlib.Core.Path.{refl, ap}
 use native.Mathlib.Omega.{arith}
-use lib.ListN.{length}
 use borrow.Author.Rules.{rules}
-use Rattle.text.proofs.Laws.{Grew, grown_none}
+use Rattle.text.proofs.Laws.{grown_none}
 use Rattle.mixing.specs.Topology.{bypass_count_of, topology_of}
 use Rattle.mixing.proofs.Laws.{filter_digit, bypass_digit, output_digit}
 use Rattle.routing_sheet.specs.Sheet.{first_pairs, lines_of}
-use Rattle.routing_sheet.proofs.Laws.{Sums, filter_of_pair, output_of_pair, sums_none, sums_next, line_grew, sheet_grew}
+use Rattle.routing_sheet.proofs.Laws.{filter_of_pair, output_of_pair, sums_none, sums_next, line_grew, sheet_grew}
 use Rattle.routing_sheet.proofs.push_sheet.Goals as goal
 
 pub loop-k-init : goal.loop-k-init
@@ -33,8 +31,7 @@ overflow_add-output c =
 pub loop-k-preserved : goal.loop-k-preserved
 unfolding topology_of
 loop-k-preserved c =
-    let z = c.loop-k in
-    (
+    let z = c.loop-k in (
       omega arith,
       c.push_pair_line-end.ensures.prefix_len.0,
       search rules,

@@ -1,14 +1,11 @@
 -- The invariant: the lines of the first k pairs are written, and three of their counts are summed up.
 use Prim.Native.Nat.{◌-◌, ◌≤◌}
-use mathlib.Core.Path.{◌≡◌, refl, ap}
-use native.Mathlib.Omega.{arith}
+use mathlib.Core.Path.{◌≡◌}
 use lib.ListN.{length}
-use borrow.Author.Rules.{rules}
-use Rattle.text.proofs.Laws.{Grew, grown_none}
-use Rattle.mixing.specs.Topology.{bypass_count_of, topology_of}
-use Rattle.mixing.proofs.Laws.{filter_digit, bypass_digit, output_digit}
+use Rattle.text.proofs.Laws.{Grew}
+use Rattle.mixing.specs.Topology.{bypass_count_of}
 use Rattle.routing_sheet.specs.Sheet.{first_pairs, lines_of}
-use Rattle.routing_sheet.proofs.Laws.{Sums, filter_of_pair, output_of_pair, sums_none, sums_next, line_grew, sheet_grew}
+use Rattle.routing_sheet.proofs.Laws.{Sums, filter_of_pair, output_of_pair}
 use Rattle.routing_sheet.proofs.push_sheet.Given as goal
 
 abbrev pub invariant-loop-k : goal.invariant-loop-k

@@ -1,7 +1,6 @@
 use Prim.Native.Nat.{ℕ}
 use mathlib.Core.Path.{◌∙◌, sym}
 use lib.ListN.{length-replicate}
-use borrow.Author.Rules.{rules}
 use Rattle.text.proofs.Laws.{grown_all}
 use Rattle.routing_sheet.proofs.Figures.{sheet_long}
 use Rattle.routing_sheet.proofs.sheet.Goals as goal

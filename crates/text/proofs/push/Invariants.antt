@@ -1,12 +1,8 @@
 -- The invariant: the i first bytes stand from the place on, and nothing else has changed.
 use Prim.Native.Nat.{◌+◌, ◌-◌, ◌≤◌}
-use mathlib.Core.Path.{◌≡◌, refl, sym}
-use native.Mathlib.Omega.{arith}
-use native.Mathlib.Numerals.{add-one}
-use lib.ListN.{length, length-set}
-use lib.Seq.{length-take-le, paste, paste-zero, paste-suc}
-use borrow.Author.Rules.{rules}
-use Rattle.text.proofs.Laws.{grown_past, pasted_full, pasted_whole}
+use mathlib.Core.Path.{◌≡◌}
+use lib.ListN.{length}
+use lib.Seq.{paste}
 use Rattle.text.proofs.push.Given as goal
 
 abbrev pub invariant-loop-i : goal.invariant-loop-i

@@ -1,4 +1,3 @@
-use borrow.Author.Rules.{rules}
 use Rattle.text.proofs.Laws.{decimal_is}
 use Rattle.text.proofs.push_number.Goals as goal
 

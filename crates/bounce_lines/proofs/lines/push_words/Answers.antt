@@ -1,4 +1,3 @@
-use borrow.Author.Rules.{rules}
 use Rattle.bounce_lines.specs.Lines.{words_of}
 use Rattle.bounce_lines.proofs.lines.push_words.Goals as goal
 

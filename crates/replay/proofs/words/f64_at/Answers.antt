@@ -1,6 +1,5 @@
 use mathlib.Core.Path.{ap, sym, ◌∙◌}
 use lib.Ieee.{binary64, div, of_bits}
-use borrow.Author.Rules.{rules}
 use Rattle.replay.proofs.Laws.{no_nan, nan_above}
 use Rattle.replay.proofs.words.f64_at.Goals as goal
 

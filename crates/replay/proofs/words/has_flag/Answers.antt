@@ -1,4 +1,3 @@
-use borrow.Author.Rules.{rules}
 use Rattle.replay.proofs.words.has_flag.Goals as goal
 
 pub returns : goal.returns

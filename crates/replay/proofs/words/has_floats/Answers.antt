@@ -1,10 +1,6 @@
-use Prim.Native.Nat.{◌+◌, ◌*◌, ◌-◌, ◌≤◌}
-use mathlib.Core.Bool.{◌&&◌}
-use mathlib.Core.Path.{◌≡◌}
 use native.Mathlib.Omega.{arith}
-use lib.ListN.{length, drop}
 use borrow.Author.Tests.{lt-ltb, le-ltb}
-use Rattle.replay.specs.Records.{are_floats, has_floats}
+use Rattle.replay.specs.Records.{has_floats}
 use Rattle.replay.proofs.Laws.{at_start, one_more, at_end, finished}
 use Rattle.replay.proofs.words.has_floats.Goals as goal
 

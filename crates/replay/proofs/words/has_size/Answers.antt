@@ -1,4 +1,3 @@
-use borrow.Author.Rules.{rules}
 use Rattle.replay.proofs.words.has_size.Goals as goal
 
 pub returns : goal.returns

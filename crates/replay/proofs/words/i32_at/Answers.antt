@@ -1,5 +1,4 @@
 use native.Mathlib.Omega.{arith}
-use borrow.Author.Rules.{rules}
 use Rattle.replay.proofs.Laws.{upper_fits, upper_is}
 use Rattle.replay.proofs.words.i32_at.Goals as goal
 

@@ -1,5 +1,4 @@
 use borrow.Author.Tests.{lt-ltb, le-ltb}
-use borrow.Author.Rules.{rules}
 use Rattle.replay.specs.Records.{u64_at}
 use Rattle.replay.proofs.words.u64_at.Goals as goal
 
