@@ -7,127 +7,146 @@ mod names;
 
 use answers::Answer;
 use control::{DecodedState, State};
-use libc::STDOUT_FILENO;
+use std::env::Env;
+use std::fs::File;
+use std::io::{Print, Write};
 
 // The statuses beside 0, done, and the refusals: the arguments are wrong or a file cannot be read, or one cannot be written.
 const UNREAD: u32 = 101;
 
 const UNWRITTEN: u32 = 102;
 
-fn main() {
-    let status = bounce();
-    io::write_all(STDOUT_FILENO, b"status ");
-    io::print_decimal(STDOUT_FILENO, status as u64);
-    io::write_all(STDOUT_FILENO, b"\n");
+fn main(rt: HostRuntime) {
+    let status = bounce(&rt);
+    let _ = println!(rt; "status {status}");
 }
 
 // Each of these functions answers the status, and goes on with the next where it can.
-fn bounce() -> u32 {
-    if os::arg_count() < 6 {
-        io::write_all(
-            STDOUT_FILENO,
-            b"usage: bounce BUNDLE DECAYS STATE OUTPUT SCRIPT..\n",
-        );
+fn bounce(rt: &HostRuntime) -> u32 {
+    if names::arg_count(rt) < 6 {
+        let _ = rt.print("usage: bounce BUNDLE DECAYS STATE OUTPUT SCRIPT..\n");
         return UNREAD;
     }
-    if !names::are_apart() {
+    if !names::are_apart(rt) {
         return UNREAD;
     }
-    find_bundle()
+    find_bundle(rt)
 }
 
 // Finds the bundle's name.
-fn find_bundle() -> u32 {
+fn find_bundle(rt: &HostRuntime) -> u32 {
     let mut path = io::buffer();
-    let n = os::arg(1, &mut path);
-    if os::errno() != 0 {
-        os::fail(b"BUNDLE");
-        return UNREAD;
+    match rt.arg(1, &mut path) {
+        Ok(n) => load_bundle(rt, &path[..n]),
+        Err(error) => {
+            names::fail(rt, b"BUNDLE", error);
+            UNREAD
+        }
     }
-    load_bundle(&path[..n])
 }
 
 // Loads the bundle.
-fn load_bundle(path: &[u8]) -> u32 {
+fn load_bundle(rt: &HostRuntime, path: &[u8]) -> u32 {
     let mut bundle = bundle_room();
-    let loaded = files::load(path, &mut bundle);
+    let loaded = files::load(rt, path, &mut bundle);
     if !loaded.whole {
-        os::fail(path);
         return UNREAD;
     }
     let size = loaded.size;
-    open(path, &bundle[..size])
+    open(rt, path, &bundle[..size])
 }
 
 // Opens the bundle and builds its curves.
-fn open(name: &[u8], bundle: &[u8]) -> u32 {
+fn open(rt: &HostRuntime, name: &[u8], bundle: &[u8]) -> u32 {
     let opened = bundle::open(bundle);
     if !answers::is_done(opened) {
-        return refuse(name, opened);
+        return refuse(rt, name, opened);
     }
     let mut curves = curves_room();
     let built = curves::build(bundle, &mut curves);
     if !answers::is_done(built) {
-        return refuse(name, built);
+        return refuse(rt, name, built);
     }
-    find_decays(bundle, &curves)
+    find_decays(rt, bundle, &curves)
 }
 
 // Prints the line of a file that is refused before the first script, and answers the number.
-fn refuse(name: &[u8], answer: Answer) -> u32 {
+fn refuse(rt: &HostRuntime, name: &[u8], answer: Answer) -> u32 {
     let mut line = line_room();
     let end = bounce_lines::refused_line(&mut line, name, answer);
-    io::write_all(STDOUT_FILENO, &line[..end]);
+    let _ = rt.write_all(&line[..end]);
     answers::report(answer).number
 }
 
 // Finds the decays' name.
-fn find_decays(bundle: &[u8], curves: &[u8]) -> u32 {
+fn find_decays(rt: &HostRuntime, bundle: &[u8], curves: &[u8]) -> u32 {
     let mut path = io::buffer();
-    let n = os::arg(2, &mut path);
-    if os::errno() != 0 {
-        os::fail(b"DECAYS");
-        return UNREAD;
+    match rt.arg(2, &mut path) {
+        Ok(n) => load_decays(rt, bundle, curves, &path[..n]),
+        Err(error) => {
+            names::fail(rt, b"DECAYS", error);
+            UNREAD
+        }
     }
-    load_decays(bundle, curves, &path[..n])
 }
 
 // Loads the decays, which are judged after the state.
-fn load_decays(bundle: &[u8], curves: &[u8], path: &[u8]) -> u32 {
+fn load_decays(rt: &HostRuntime, bundle: &[u8], curves: &[u8], path: &[u8]) -> u32 {
     let mut decays = decays_room();
-    let loaded = files::load(path, &mut decays);
+    let loaded = files::load(rt, path, &mut decays);
     if !loaded.whole {
-        os::fail(path);
         return UNREAD;
     }
     let size = loaded.size;
-    find_state(bundle, curves, path, &decays[..size])
+    find_state(rt, bundle, curves, path, &decays[..size])
 }
 
 // Finds the state's name.
-fn find_state(bundle: &[u8], curves: &[u8], decays_name: &[u8], decays: &[u8]) -> u32 {
+fn find_state(
+    rt: &HostRuntime,
+    bundle: &[u8],
+    curves: &[u8],
+    decays_name: &[u8],
+    decays: &[u8],
+) -> u32 {
     let mut path = io::buffer();
-    let n = os::arg(3, &mut path);
-    if os::errno() != 0 {
-        os::fail(b"STATE");
-        return UNREAD;
+    match rt.arg(3, &mut path) {
+        Ok(n) => load_state(rt, bundle, curves, decays_name, decays, &path[..n]),
+        Err(error) => {
+            names::fail(rt, b"STATE", error);
+            UNREAD
+        }
     }
-    load_state(bundle, curves, decays_name, decays, &path[..n])
 }
 
 // Loads the state. One of 24 bytes has no charges yet.
-fn load_state(bundle: &[u8], curves: &[u8], decays_name: &[u8], decays: &[u8], path: &[u8]) -> u32 {
+fn load_state(
+    rt: &HostRuntime,
+    bundle: &[u8],
+    curves: &[u8],
+    decays_name: &[u8],
+    decays: &[u8],
+    path: &[u8],
+) -> u32 {
     let mut block = block_room();
-    let loaded = files::load_state(path, &mut block);
+    let loaded = files::load_state(rt, path, &mut block);
     if !loaded.whole {
-        os::fail(path);
         return UNREAD;
     }
     let size = loaded.size;
     if size == State::NARROW_BYTES {
-        return widen(bundle, curves, decays_name, decays, path, &block[..size]);
+        return widen(
+            rt,
+            bundle,
+            curves,
+            decays_name,
+            decays,
+            path,
+            &block[..size],
+        );
     }
     judge(
+        rt,
         bundle,
         curves,
         decays_name,
@@ -139,6 +158,7 @@ fn load_state(bundle: &[u8], curves: &[u8], decays_name: &[u8], decays: &[u8], p
 
 // Widens a block that has no charges.
 fn widen(
+    rt: &HostRuntime,
     bundle: &[u8],
     curves: &[u8],
     decays_name: &[u8],
@@ -148,13 +168,14 @@ fn widen(
 ) -> u32 {
     let mut block = [0u8; 68];
     if !State::widen(narrow, &mut block) {
-        return refuse(path, Answer::Argument);
+        return refuse(rt, path, Answer::Argument);
     }
-    judge(bundle, curves, decays_name, decays, path, &mut block)
+    judge(rt, bundle, curves, decays_name, decays, path, &mut block)
 }
 
 // Judges the state and then the decays, before anything is written.
 fn judge(
+    rt: &HostRuntime,
     bundle: &[u8],
     curves: &[u8],
     decays_name: &[u8],
@@ -163,57 +184,81 @@ fn judge(
     block: &mut [u8],
 ) -> u32 {
     let DecodedState::Valid(_) = State::decode(block) else {
-        return refuse(path, Answer::Argument);
+        return refuse(rt, path, Answer::Argument);
     };
     let judged = transients::judge_decays(decays);
     if !answers::is_done(judged) {
-        return refuse(decays_name, judged);
+        return refuse(rt, decays_name, judged);
     }
-    keep(bundle, curves, decays, path, block)
+    keep(rt, bundle, curves, decays, path, block)
 }
 
 // Saves the state that the scripts leave, but not where samples may be missing from the output.
-fn keep(bundle: &[u8], curves: &[u8], decays: &[u8], path: &[u8], block: &mut [u8]) -> u32 {
-    let status = render(bundle, curves, decays, block);
+fn keep(
+    rt: &HostRuntime,
+    bundle: &[u8],
+    curves: &[u8],
+    decays: &[u8],
+    path: &[u8],
+    block: &mut [u8],
+) -> u32 {
+    let status = render(rt, bundle, curves, decays, block);
     if status == UNWRITTEN {
         return status;
     }
-    if files::save(path, block) {
+    if files::save(rt, path, block) {
         return status;
     }
     UNWRITTEN
 }
 
 // Finds the output's name.
-fn render(bundle: &[u8], curves: &[u8], decays: &[u8], block: &mut [u8]) -> u32 {
+fn render(rt: &HostRuntime, bundle: &[u8], curves: &[u8], decays: &[u8], block: &mut [u8]) -> u32 {
     let mut path = io::buffer();
-    let n = os::arg(4, &mut path);
-    if os::errno() != 0 {
-        os::fail(b"OUTPUT");
-        return UNWRITTEN;
+    match rt.arg(4, &mut path) {
+        Ok(n) => fill_output(rt, bundle, curves, decays, block, &path[..n]),
+        Err(error) => {
+            names::fail(rt, b"OUTPUT", error);
+            UNWRITTEN
+        }
     }
-    fill_output(bundle, curves, decays, block, &path[..n])
 }
 
 // Empties the output, or makes it, and plays the scripts into it.
-fn fill_output(bundle: &[u8], curves: &[u8], decays: &[u8], block: &mut [u8], path: &[u8]) -> u32 {
-    let output = os::open_overwrite(path);
-    if output < 0 {
-        os::fail(path);
-        return UNWRITTEN;
-    }
-    let status = play(bundle, curves, decays, block, output);
-    if libc::close(output) < 0 {
-        os::fail(path);
+fn fill_output(
+    rt: &HostRuntime,
+    bundle: &[u8],
+    curves: &[u8],
+    decays: &[u8],
+    block: &mut [u8],
+    path: &[u8],
+) -> u32 {
+    let mut output = match files::create(rt, path) {
+        Ok(output) => output,
+        Err(error) => {
+            files::fail(rt, path, error);
+            return UNWRITTEN;
+        }
+    };
+    let status = play(rt, bundle, curves, decays, block, &mut output);
+    if let Err(error) = files::settle(&output) {
+        files::fail(rt, path, error);
         return UNWRITTEN;
     }
     status
 }
 
 // The scripts in order, up to the first that is not done.
-fn play(bundle: &[u8], curves: &[u8], decays: &[u8], block: &mut [u8], output: i32) -> u32 {
-    for i in 5..os::arg_count() {
-        let status = play_argument(bundle, curves, decays, block, i, output);
+fn play(
+    rt: &HostRuntime,
+    bundle: &[u8],
+    curves: &[u8],
+    decays: &[u8],
+    block: &mut [u8],
+    output: &mut File,
+) -> u32 {
+    for i in 5..names::arg_count(rt) {
+        let status = play_argument(rt, bundle, curves, decays, block, i, output);
         if status != 0 {
             return status;
         }
@@ -223,50 +268,62 @@ fn play(bundle: &[u8], curves: &[u8], decays: &[u8], block: &mut [u8], output: i
 
 // Finds a script's name.
 fn play_argument(
+    rt: &HostRuntime,
     bundle: &[u8],
     curves: &[u8],
     decays: &[u8],
     block: &mut [u8],
     i: usize,
-    output: i32,
+    output: &mut File,
 ) -> u32 {
     let mut path = io::buffer();
-    let n = os::arg(i, &mut path);
-    if os::errno() != 0 {
-        os::fail(b"SCRIPT");
-        return UNREAD;
+    match rt.arg(i, &mut path) {
+        Ok(n) => play_file(rt, bundle, curves, decays, block, &path[..n], output),
+        Err(error) => {
+            names::fail(rt, b"SCRIPT", error);
+            UNREAD
+        }
     }
-    play_file(bundle, curves, decays, block, &path[..n], output)
 }
 
 // Loads a script and plays it.
 fn play_file(
+    rt: &HostRuntime,
     bundle: &[u8],
     curves: &[u8],
     decays: &[u8],
     block: &mut [u8],
     path: &[u8],
-    output: i32,
+    output: &mut File,
 ) -> u32 {
     let mut script = script_room();
-    let loaded = files::load(path, &mut script);
+    let loaded = files::load(rt, path, &mut script);
     if !loaded.whole {
-        os::fail(path);
         return UNREAD;
     }
     let size = loaded.size;
-    play_script(bundle, curves, decays, block, path, &script[..size], output)
+    play_script(
+        rt,
+        bundle,
+        curves,
+        decays,
+        block,
+        path,
+        &script[..size],
+        output,
+    )
 }
 
 // Runs a script, writes its samples and prints its line.
 fn play_script(
+    rt: &HostRuntime,
     bundle: &[u8],
     curves: &[u8],
     decays: &[u8],
     block: &mut [u8],
     name: &[u8],
     script: &[u8],
-    output: i32,
+    output: &mut File,
 ) -> u32 {
     let mut samples = sample_room();
     let mut line = line_room();
@@ -282,11 +339,11 @@ fn play_script(
     );
     let size = stepped.samples;
     let end = stepped.line;
-    if !io::write_all(output, &samples[..size]) {
-        os::fail(b"OUTPUT");
+    if let Err(error) = output.write_all(&samples[..size]) {
+        files::fail(rt, b"OUTPUT", error);
         return UNWRITTEN;
     }
-    io::write_all(STDOUT_FILENO, &line[..end]);
+    let _ = rt.write_all(&line[..end]);
     stepped.number
 }
 

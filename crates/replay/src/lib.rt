@@ -7,7 +7,8 @@ ghost use Rattle.std.specs.Prelude.{◌≡◌, length};
 ghost use Rattle.io.specs.Counts.{IsPrefixLen};
 ghost use Rattle.replay.specs.Records.{record_count_of, record_of};
 
-use libc::STDOUT_FILENO;
+use std::fs::{File, Files};
+use std::io::{Print, Read};
 pub use words::{
     double_bits, f64_at, has, has_f64, has_flag, has_floats, has_size, i32_at, size_at, u64_at,
 };
@@ -22,16 +23,33 @@ pub fn room() -> [u8; 1048576]
 }
 
 // Fills bytes from the start of a file, and answers how many came: none where it is missing.
-pub fn load(file: &[u8], bytes: &mut [u8]) -> usize
+pub fn load(rt: &impl Files, file: &[u8], bytes: &mut [u8]) -> usize
     ensures { IsPrefixLen result bytes.new }
 {
-    let fd = os::open_read(file);
-    if fd < 0 {
+    let Ok(path) = str::from_utf8(file) else {
         return 0;
+    };
+    let Ok(mut opened) = File::open(rt, path) else {
+        return 0;
+    };
+    read_full(&mut opened, bytes)
+}
+
+// Reads until the bytes are full, the file ends or a read fails, and answers how many bytes came.
+fn read_full(file: &mut impl Read, bytes: &mut [u8]) -> usize
+    ensures { IsPrefixLen result bytes.new }
+{
+    let mut done = 0;
+    while done < bytes.len() {
+        let Ok(n) = file.read(&mut bytes[done..]) else {
+            break;
+        };
+        if n == 0 {
+            break;
+        }
+        done += n;
     }
-    let n = io::read_full(fd, bytes);
-    libc::close(fd);
-    n
+    done
 }
 
 // ---- its records, each a number of words
@@ -69,52 +87,52 @@ fn is_short(records: &[u8], words: usize) -> bool {
 // ---- its line. What is printed is compared with the programs' files `stdout`; the functions yield nothing.
 
 // Prints the line of one file: its name, how many of its records agree and how many it has; also where it is missing, or ends within a record.
-pub fn print_line(file: &[u8], records: &[u8], words: usize, agreed: usize)
+pub fn print_line(rt: &impl Print, file: &[u8], records: &[u8], words: usize, agreed: usize)
     ensures { result ≡ tt }
 {
-    print_title(file);
+    print_title(rt, file);
     if records.len() == 0 {
-        print(b" missing\n");
+        print(rt, b" missing\n");
         return;
     }
-    print(b" ");
-    print_number(agreed);
-    print(b" of ");
-    print_number(count(records, words));
+    print(rt, b" ");
+    print_number(rt, agreed);
+    print(rt, b" of ");
+    print_number(rt, count(records, words));
     if is_short(records, words) {
-        print(b", short");
+        print(rt, b", short");
     }
-    print(b"\n");
+    print(rt, b"\n");
 }
 
 // Prints the line of a file of pieces: its name, how many of them agree and how many it has.
-pub fn print_pieces(file: &[u8], pieces: usize, agreed: usize)
+pub fn print_pieces(rt: &impl Print, file: &[u8], pieces: usize, agreed: usize)
     ensures { result ≡ tt }
 {
-    print_title(file);
-    print(b" ");
-    print_number(agreed);
-    print(b" of ");
-    print_number(pieces);
-    print(b"\n");
+    print_title(rt, file);
+    print(rt, b" ");
+    print_number(rt, agreed);
+    print(rt, b" of ");
+    print_number(rt, pieces);
+    print(rt, b"\n");
 }
 
-pub fn print(text: &[u8])
+pub fn print(rt: &impl Print, text: &[u8])
     ensures { result ≡ tt }
 {
-    io::write_all(STDOUT_FILENO, text);
+    let _ = rt.write_all(text);
 }
 
-pub fn print_number(n: usize)
+pub fn print_number(rt: &impl Print, n: usize)
     ensures { result ≡ tt }
 {
-    io::print_decimal(STDOUT_FILENO, n as u64);
+    let _ = rt.print(n);
 }
 
 // A file's name without its last four bytes, .bin.
-fn print_title(file: &[u8]) {
+fn print_title(rt: &impl Print, file: &[u8]) {
     if 4 <= file.len() {
         let end = file.len() - 4;
-        print(&file[0..end]);
+        print(rt, &file[0..end]);
     }
 }

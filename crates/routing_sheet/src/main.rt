@@ -6,12 +6,12 @@ ghost use Rattle.io.specs.Counts.{IsPrefixLen};
 ghost use Rattle.text.specs.Text.{grown, grown_end};
 ghost use Rattle.routing_sheet.specs.Sheet.{all_pairs, spaced_of, pair_line_of, total_line_of, sheet_of};
 
-use libc::STDOUT_FILENO;
 use mixing::MixingTopology;
+use std::io::Print;
 use text::{push, push_number};
 
-fn main() {
-    io::write_all(STDOUT_FILENO, &sheet());
+fn main(rt: HostRuntime) {
+    let _ = rt.write_all(&sheet());
 }
 
 // The sheet, which has just this length.

@@ -4,7 +4,7 @@
 ghost use Rattle.std.specs.Prelude.{◌≡◌, ◌/◌, ◌%◌};
 ghost use Rattle.mixing.specs.Line.{line_of};
 
-use libc::{STDIN_FILENO, STDOUT_FILENO};
+use std::io::{Input, Print, Read};
 
 // The line of the two registers: routing is the low nibble of the one, mode the high nibble of the other.
 fn register_line(routing_register: u8, mode_register: u8) -> [u8; 39]
@@ -13,10 +13,10 @@ fn register_line(routing_register: u8, mode_register: u8) -> [u8; 39]
     mixing::line(routing_register % 16, mode_register / 16)
 }
 
-fn main() {
+fn main(rt: HostRuntime) {
     let mut registers = [0u8; 2];
-    if io::read_full(STDIN_FILENO, &mut registers) == 2 {
+    if rt.reader().read_exact(&mut registers).is_ok() {
         let text = register_line(registers[0], registers[1]);
-        io::write_all(STDOUT_FILENO, &text);
+        let _ = rt.write_all(&text);
     }
 }

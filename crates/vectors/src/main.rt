@@ -4,6 +4,9 @@
 
 mod ground;
 
+use std::fs::Files;
+use std::io::Print;
+
 // What a record asks for. Each kind has a file, and a function that says whether one of its records agrees.
 #[derive(Clone, Copy)]
 enum Kind {
@@ -39,27 +42,27 @@ fn agrees(kind: Kind, r: &[u8]) -> bool {
 }
 
 // Each kind with its file and the number of words in its records.
-fn main() {
-    replay_file(Kind::Constants, b"constants.bin", 5);
-    replay_file(Kind::Answers, b"answers.bin", 9);
-    replay_file(Kind::Rounding, b"rounding.bin", 3);
-    replay_file(Kind::Round, b"round.bin", 2);
-    replay_file(Kind::Truncate, b"truncate.bin", 4);
-    replay_file(Kind::Clamp, b"clamp.bin", 4);
-    replay_file(Kind::Abs, b"abs.bin", 2);
-    replay_file(Kind::Finite, b"finite.bin", 2);
-    replay_file(Kind::ToF32, b"to_f32.bin", 3);
-    replay_file(Kind::Narrow, b"narrow.bin", 4);
-    replay_file(Kind::Reads, b"reads.bin", 9);
-    replay_file(Kind::Puts, b"puts.bin", 10);
+fn main(rt: HostRuntime) {
+    replay_file(&rt, Kind::Constants, b"constants.bin", 5);
+    replay_file(&rt, Kind::Answers, b"answers.bin", 9);
+    replay_file(&rt, Kind::Rounding, b"rounding.bin", 3);
+    replay_file(&rt, Kind::Round, b"round.bin", 2);
+    replay_file(&rt, Kind::Truncate, b"truncate.bin", 4);
+    replay_file(&rt, Kind::Clamp, b"clamp.bin", 4);
+    replay_file(&rt, Kind::Abs, b"abs.bin", 2);
+    replay_file(&rt, Kind::Finite, b"finite.bin", 2);
+    replay_file(&rt, Kind::ToF32, b"to_f32.bin", 3);
+    replay_file(&rt, Kind::Narrow, b"narrow.bin", 4);
+    replay_file(&rt, Kind::Reads, b"reads.bin", 9);
+    replay_file(&rt, Kind::Puts, b"puts.bin", 10);
 }
 
 // Prints the line of one file, whose records have a number of words.
-fn replay_file(kind: Kind, file: &[u8], words: usize) {
+fn replay_file(rt: &(impl Files + Print), kind: Kind, file: &[u8], words: usize) {
     let mut room = replay::room();
-    let n = replay::load(file, &mut room);
+    let n = replay::load(rt, file, &mut room);
     let agreed = count_agreeing(kind, &room[..n], words);
-    replay::print_line(file, &room[..n], words, agreed);
+    replay::print_line(rt, file, &room[..n], words, agreed);
 }
 
 // How many of the records agree.

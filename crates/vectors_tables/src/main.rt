@@ -4,6 +4,9 @@
 
 mod dac;
 
+use std::fs::Files;
+use std::io::Print;
+
 // What a record asks for. Each kind has a file, and a function that says whether one of its records agrees.
 #[derive(Clone, Copy)]
 enum Kind {
@@ -23,18 +26,26 @@ fn agrees(kind: Kind, r: &[u8], positions: &[u8]) -> bool {
 }
 
 // Each kind with its file and the number of words in its records.
-fn main() {
+fn main(rt: HostRuntime) {
     let mut positions = [0u8; 8192];
     ladder::build_cutoff_control_positions(&mut positions);
     replay_file(
+        &rt,
         Kind::SolveTridiagonal,
         b"solve_tridiagonal.bin",
         120,
         &positions,
     );
-    replay_file(Kind::LadderWeights, b"ladder_weights.bin", 27, &positions);
-    replay_file(Kind::LadderValue, b"ladder_value.bin", 29, &positions);
     replay_file(
+        &rt,
+        Kind::LadderWeights,
+        b"ladder_weights.bin",
+        27,
+        &positions,
+    );
+    replay_file(&rt, Kind::LadderValue, b"ladder_value.bin", 29, &positions);
+    replay_file(
+        &rt,
         Kind::ControlPositions,
         b"control_positions.bin",
         2,
@@ -43,11 +54,11 @@ fn main() {
 }
 
 // Prints the line of one file, whose records have a number of words.
-fn replay_file(kind: Kind, file: &[u8], words: usize, positions: &[u8]) {
+fn replay_file(rt: &(impl Files + Print), kind: Kind, file: &[u8], words: usize, positions: &[u8]) {
     let mut room = replay::room();
-    let n = replay::load(file, &mut room);
+    let n = replay::load(rt, file, &mut room);
     let agreed = count_agreeing(kind, &room[..n], words, positions);
-    replay::print_line(file, &room[..n], words, agreed);
+    replay::print_line(rt, file, &room[..n], words, agreed);
 }
 
 // How many of the records agree.
