@@ -7,6 +7,9 @@ mod circuit;
 mod levels;
 mod registers;
 
+use std::fs::Files;
+use std::io::Print;
+
 // What a record asks for. Each kind has a file, and a function that says whether one of its records agrees.
 #[derive(Clone, Copy)]
 enum Kind {
@@ -40,26 +43,26 @@ fn agrees(kind: Kind, r: &[u8]) -> bool {
 }
 
 // Each kind with its file and the number of words in its records.
-fn main() {
-    replay_file(Kind::Saturate, b"saturate.bin", 3);
-    replay_file(Kind::Advance, b"advance.bin", 13);
-    replay_file(Kind::Substeps, b"substeps.bin", 28);
-    replay_file(Kind::OperatingPosition, b"operating_position.bin", 6);
-    replay_file(Kind::Conductance, b"conductance.bin", 2);
-    replay_file(Kind::CommonMode, b"common_mode.bin", 3);
-    replay_file(Kind::ModeGain, b"mode_gain.bin", 5);
-    replay_file(Kind::Topology, b"topology.bin", 19);
-    replay_file(Kind::Writes, b"writes.bin", 11);
-    replay_file(Kind::Charges, b"charges.bin", 36);
-    replay_file(Kind::Widening, b"widening.bin", 23);
+fn main(rt: HostRuntime) {
+    replay_file(&rt, Kind::Saturate, b"saturate.bin", 3);
+    replay_file(&rt, Kind::Advance, b"advance.bin", 13);
+    replay_file(&rt, Kind::Substeps, b"substeps.bin", 28);
+    replay_file(&rt, Kind::OperatingPosition, b"operating_position.bin", 6);
+    replay_file(&rt, Kind::Conductance, b"conductance.bin", 2);
+    replay_file(&rt, Kind::CommonMode, b"common_mode.bin", 3);
+    replay_file(&rt, Kind::ModeGain, b"mode_gain.bin", 5);
+    replay_file(&rt, Kind::Topology, b"topology.bin", 19);
+    replay_file(&rt, Kind::Writes, b"writes.bin", 11);
+    replay_file(&rt, Kind::Charges, b"charges.bin", 36);
+    replay_file(&rt, Kind::Widening, b"widening.bin", 23);
 }
 
 // Prints the line of one file, whose records have a number of words.
-fn replay_file(kind: Kind, file: &[u8], words: usize) {
+fn replay_file(rt: &(impl Files + Print), kind: Kind, file: &[u8], words: usize) {
     let mut room = replay::room();
-    let n = replay::load(file, &mut room);
+    let n = replay::load(rt, file, &mut room);
     let agreed = count_agreeing(kind, &room[..n], words);
-    replay::print_line(file, &room[..n], words, agreed);
+    replay::print_line(rt, file, &room[..n], words, agreed);
 }
 
 // How many of the records agree.

@@ -2,6 +2,8 @@
 // record tells. Prints a line for each file: its name, how many of its records agree, and how many it has.
 #![tactic(auto)]
 
+use std::fs::Files;
+use std::io::Print;
 
 // What a record asks for, behind its entries.
 #[derive(Clone, Copy)]
@@ -78,11 +80,12 @@ fn agrees(kind: Kind, r: &[u8], bundle: &mut [u8; 6127736], curves: &mut [u8; 25
 
 // ---- the files
 
-fn main() {
+fn main(rt: HostRuntime) {
     let mut bundle = bundle_room();
     let mut curves = curves_room();
-    replay::load(b"header.bin", &mut bundle);
+    replay::load(&rt, b"header.bin", &mut bundle);
     replay_file(
+        &rt,
         Kind::WholeLoads,
         b"whole_loads.bin",
         12,
@@ -90,6 +93,7 @@ fn main() {
         &mut curves,
     );
     replay_file(
+        &rt,
         Kind::ZeroSigns,
         b"zero_signs.bin",
         12,
@@ -97,6 +101,7 @@ fn main() {
         &mut curves,
     );
     replay_file(
+        &rt,
         Kind::SummerAtRest,
         b"summer_at_rest.bin",
         13,
@@ -115,6 +120,7 @@ fn curves_room() -> [u8; 254076] {
 
 // Prints the line of one file, whose records have a number of words.
 fn replay_file(
+    rt: &(impl Files + Print),
     kind: Kind,
     file: &[u8],
     words: usize,
@@ -122,9 +128,9 @@ fn replay_file(
     curves: &mut [u8; 254076],
 ) {
     let mut room = replay::room();
-    let n = replay::load(file, &mut room);
+    let n = replay::load(rt, file, &mut room);
     let agreed = count_agreeing(kind, &room[..n], words, bundle, curves);
-    replay::print_line(file, &room[..n], words, agreed);
+    replay::print_line(rt, file, &room[..n], words, agreed);
 }
 
 // How many of the records agree.

@@ -4,42 +4,51 @@
 
 mod song;
 
-fn main() {
+use std::fs::Files;
+use std::io::Print;
+
+fn main(rt: HostRuntime) {
     let mut bundle = bundle_room();
     let mut decays = [0; 24];
-    let n = replay::load(b"bundle.bin", &mut bundle);
-    let m = replay::load(b"decays.bin", &mut decays);
-    replay_all(&bundle[..n], &decays[..m]);
+    let n = replay::load(&rt, b"bundle.bin", &mut bundle);
+    let m = replay::load(&rt, b"decays.bin", &mut decays);
+    replay_all(&rt, &bundle[..n], &decays[..m]);
 }
 
 // The number that building answers, then the files.
-fn replay_all(bundle: &[u8], decays: &[u8]) {
+fn replay_all(rt: &(impl Files + Print), bundle: &[u8], decays: &[u8]) {
     let mut curves = curves_room();
     let built = curves::build(bundle, &mut curves);
-    replay::print(b"bundle ");
-    replay::print_number(bundle.len());
-    replay::print(b" bytes, decays ");
-    replay::print_number(decays.len());
-    replay::print(b" bytes, build ");
-    replay::print_number(answers::report(built).number as usize);
-    replay::print(b"\n");
-    replay_songs(bundle, &curves, decays);
+    replay::print(rt, b"bundle ");
+    replay::print_number(rt, bundle.len());
+    replay::print(rt, b" bytes, decays ");
+    replay::print_number(rt, decays.len());
+    replay::print(rt, b" bytes, build ");
+    replay::print_number(rt, answers::report(built).number as usize);
+    replay::print(rt, b"\n");
+    replay_songs(rt, bundle, &curves, decays);
 }
 
 // The song whole, cut, event by event, and a script of no events.
-fn replay_songs(bundle: &[u8], curves: &[u8], decays: &[u8]) {
-    replay_song(b"song.bin", bundle, curves, decays);
-    replay_song(b"song_cut.bin", bundle, curves, decays);
-    replay_song(b"song_events.bin", bundle, curves, decays);
-    replay_song(b"song_empty.bin", bundle, curves, decays);
+fn replay_songs(rt: &(impl Files + Print), bundle: &[u8], curves: &[u8], decays: &[u8]) {
+    replay_song(rt, b"song.bin", bundle, curves, decays);
+    replay_song(rt, b"song_cut.bin", bundle, curves, decays);
+    replay_song(rt, b"song_events.bin", bundle, curves, decays);
+    replay_song(rt, b"song_empty.bin", bundle, curves, decays);
 }
 
 // Prints the line of one file of pieces.
-fn replay_song(file: &[u8], bundle: &[u8], curves: &[u8], decays: &[u8]) {
+fn replay_song(
+    rt: &(impl Files + Print),
+    file: &[u8],
+    bundle: &[u8],
+    curves: &[u8],
+    decays: &[u8],
+) {
     let mut room = replay::room();
-    let n = replay::load(file, &mut room);
+    let n = replay::load(rt, file, &mut room);
     let agreed = song::count_agreeing(&room[..n], bundle, curves, decays);
-    replay::print_pieces(file, song::count(&room[..n]), agreed);
+    replay::print_pieces(rt, file, song::count(&room[..n]), agreed);
 }
 
 // The bundle alone takes 6 of the 8 MiB of stack.

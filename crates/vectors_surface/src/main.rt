@@ -6,6 +6,9 @@ mod core;
 mod curve_points;
 mod surface;
 
+use std::fs::Files;
+use std::io::Print;
+
 // What a record asks for. Each kind has a file, and a function that says whether one of its records agrees.
 #[derive(Clone, Copy)]
 enum Kind {
@@ -34,44 +37,66 @@ fn agrees(kind: Kind, r: &[u8], bundle: &[u8], curves: &[u8]) -> bool {
     }
 }
 
-fn main() {
+fn main(rt: HostRuntime) {
     let mut bundle = bundle_room();
-    let n = replay::load(b"bundle.bin", &mut bundle);
-    replay_all(&bundle[..n]);
+    let n = replay::load(&rt, b"bundle.bin", &mut bundle);
+    replay_all(&rt, &bundle[..n]);
 }
 
 // The numbers that opening and building answer, then the files.
-fn replay_all(bundle: &[u8]) {
+fn replay_all(rt: &(impl Files + Print), bundle: &[u8]) {
     let mut curves = curves_room();
     let opened = sid_filter::sid_filter_open(bundle).number;
     let built = sid_filter::sid_filter_build_curves(bundle, &mut curves).number;
-    replay::print(b"bundle ");
-    replay::print_number(bundle.len());
-    replay::print(b" bytes, open ");
-    replay::print_number(opened as usize);
-    replay::print(b", build ");
-    replay::print_number(built as usize);
-    replay::print(b"\n");
-    replay_files(bundle, &curves);
+    replay::print(rt, b"bundle ");
+    replay::print_number(rt, bundle.len());
+    replay::print(rt, b" bytes, open ");
+    replay::print_number(rt, opened as usize);
+    replay::print(rt, b", build ");
+    replay::print_number(rt, built as usize);
+    replay::print(rt, b"\n");
+    replay_files(rt, bundle, &curves);
 }
 
 // Each kind with its file and the number of words in its records.
-fn replay_files(bundle: &[u8], curves: &[u8]) {
-    replay_file(Kind::Words, b"words.bin", 3, bundle, curves);
+fn replay_files(rt: &(impl Files + Print), bundle: &[u8], curves: &[u8]) {
+    replay_file(rt, Kind::Words, b"words.bin", 3, bundle, curves);
     replay_file(
+        rt,
         Kind::AnalogueLoadPosition,
         b"load_position.bin",
         4,
         bundle,
         curves,
     );
-    replay_file(Kind::Sample, b"sample.bin", 3, bundle, curves);
-    replay_file(Kind::Curves, b"curves.bin", 2, bundle, curves);
-    replay_file(Kind::Controls, b"controls.bin", 83, bundle, curves);
-    replay_file(Kind::FilterSample, b"filter_sample.bin", 40, bundle, curves);
-    replay_file(Kind::SampleCurve, b"sample_curve.bin", 6, bundle, curves);
-    replay_file(Kind::Transfers, b"transfers.bin", 8, bundle, curves);
-    replay_file(Kind::SamplePoint, b"sample_point.bin", 23, bundle, curves);
+    replay_file(rt, Kind::Sample, b"sample.bin", 3, bundle, curves);
+    replay_file(rt, Kind::Curves, b"curves.bin", 2, bundle, curves);
+    replay_file(rt, Kind::Controls, b"controls.bin", 83, bundle, curves);
+    replay_file(
+        rt,
+        Kind::FilterSample,
+        b"filter_sample.bin",
+        40,
+        bundle,
+        curves,
+    );
+    replay_file(
+        rt,
+        Kind::SampleCurve,
+        b"sample_curve.bin",
+        6,
+        bundle,
+        curves,
+    );
+    replay_file(rt, Kind::Transfers, b"transfers.bin", 8, bundle, curves);
+    replay_file(
+        rt,
+        Kind::SamplePoint,
+        b"sample_point.bin",
+        23,
+        bundle,
+        curves,
+    );
 }
 
 // The bundle alone takes 6 of the 8 MiB of stack.
@@ -84,11 +109,18 @@ fn curves_room() -> [u8; 254076] {
 }
 
 // Prints the line of one file, whose records have a number of words.
-fn replay_file(kind: Kind, file: &[u8], words: usize, bundle: &[u8], curves: &[u8]) {
+fn replay_file(
+    rt: &(impl Files + Print),
+    kind: Kind,
+    file: &[u8],
+    words: usize,
+    bundle: &[u8],
+    curves: &[u8],
+) {
     let mut room = replay::room();
-    let n = replay::load(file, &mut room);
+    let n = replay::load(rt, file, &mut room);
     let agreed = count_agreeing(kind, &room[..n], words, bundle, curves);
-    replay::print_line(file, &room[..n], words, agreed);
+    replay::print_line(rt, file, &room[..n], words, agreed);
 }
 
 // How many of the records agree.

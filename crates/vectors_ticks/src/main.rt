@@ -2,6 +2,8 @@
 // Prints a line for each file: its name, how many of its records agree, and how many it has.
 #![tactic(auto)]
 
+use std::fs::Files;
+use std::io::Print;
 
 // What a record has around a tick.
 #[derive(Clone, Copy)]
@@ -117,14 +119,15 @@ fn agrees(kind: Kind, r: &[u8], bundle: &mut [u8; 6127736], curves: &mut [u8; 25
 
 // ---- the files
 
-fn main() {
+fn main(rt: HostRuntime) {
     let mut bundle = bundle_room();
     let mut curves = curves_room();
-    let n = replay::load(b"bundle.bin", &mut bundle);
+    let n = replay::load(&rt, b"bundle.bin", &mut bundle);
     let answer = curves::build(&bundle, &mut curves);
-    print_built(n, answers::report(answer).number);
-    replay_file(Kind::Ticks, b"ticks.bin", 57, &mut bundle, &mut curves);
+    print_built(&rt, n, answers::report(answer).number);
+    replay_file(&rt, Kind::Ticks, b"ticks.bin", 57, &mut bundle, &mut curves);
     replay_file(
+        &rt,
         Kind::TicksDamaged,
         b"ticks_damaged.bin",
         68,
@@ -133,12 +136,12 @@ fn main() {
     );
 }
 
-fn print_built(bytes: usize, built: u32) {
-    replay::print(b"bundle ");
-    replay::print_number(bytes);
-    replay::print(b" bytes, build ");
-    replay::print_number(built as usize);
-    replay::print(b"\n");
+fn print_built(rt: &impl Print, bytes: usize, built: u32) {
+    replay::print(rt, b"bundle ");
+    replay::print_number(rt, bytes);
+    replay::print(rt, b" bytes, build ");
+    replay::print_number(rt, built as usize);
+    replay::print(rt, b"\n");
 }
 
 // The bundle alone takes 6 of the 8 MiB of stack.
@@ -152,6 +155,7 @@ fn curves_room() -> [u8; 254076] {
 
 // Prints the line of one file, whose records have a number of words.
 fn replay_file(
+    rt: &(impl Files + Print),
     kind: Kind,
     file: &[u8],
     words: usize,
@@ -159,9 +163,9 @@ fn replay_file(
     curves: &mut [u8; 254076],
 ) {
     let mut room = replay::room();
-    let n = replay::load(file, &mut room);
+    let n = replay::load(rt, file, &mut room);
     let agreed = count_agreeing(kind, &room[..n], words, bundle, curves);
-    replay::print_line(file, &room[..n], words, agreed);
+    replay::print_line(rt, file, &room[..n], words, agreed);
 }
 
 // How many of the records agree.

@@ -2,6 +2,8 @@
 // many of its records agree, and how many it has.
 #![tactic(auto)]
 
+use std::fs::Files;
+use std::io::Print;
 
 // What a record tells behind its nibbles, voices and numbers.
 #[derive(Clone, Copy)]
@@ -111,17 +113,17 @@ fn agrees(kind: Kind, r: &[u8]) -> bool {
 
 // ---- the files
 
-fn main() {
-    replay_file(Kind::Collect, b"collect.bin", 26);
-    replay_file(Kind::CollectRefused, b"collect_refused.bin", 21);
+fn main(rt: HostRuntime) {
+    replay_file(&rt, Kind::Collect, b"collect.bin", 26);
+    replay_file(&rt, Kind::CollectRefused, b"collect_refused.bin", 21);
 }
 
 // Prints the line of one file, whose records have a number of words.
-fn replay_file(kind: Kind, file: &[u8], words: usize) {
+fn replay_file(rt: &(impl Files + Print), kind: Kind, file: &[u8], words: usize) {
     let mut room = replay::room();
-    let n = replay::load(file, &mut room);
+    let n = replay::load(rt, file, &mut room);
     let agreed = count_agreeing(kind, &room[..n], words);
-    replay::print_line(file, &room[..n], words, agreed);
+    replay::print_line(rt, file, &room[..n], words, agreed);
 }
 
 // How many of the records agree.

@@ -21,9 +21,10 @@ loop-bit-preserved c =
     let a = c.args in
     let bit = c.loop-bit.bit in
     let level : c.if-rest-eq1.level ≡ level_at a.code a.leakage bit =
-      elim c.if-rest-eq1.branch [
-        then-rest-eq1 w ↦ rw (w.level-is, ← c.loop-bit.invariant.1, eq-eqb _ _ w.if-rest-eq1.true)
-        | else-rest-eq1 w ↦ rw (w.level-is, ← c.loop-bit.invariant.1, ne_eqb _ _ w.if-rest-eq1.false) ] in
+    elim c.if-rest-eq1.branch [
+      | then-rest-eq1 w ↦ rw (w.level-is, ← c.loop-bit.invariant.1, eq-eqb _ _ w.if-rest-eq1.true)
+      | else-rest-eq1 w ↦ rw (w.level-is, ← c.loop-bit.invariant.1, ne_eqb _ _ w.if-rest-eq1.false)
+    ] in
     (search rules, rw c.loop-bit.invariant.1 (halved a.code bit), rw (c.loop-bit.invariant.2, level) (sum_more _ bit))
 
 pub returns : goal.returns
