@@ -202,18 +202,18 @@ mod tests {
         ];
         for (name, refusal) in named {
             let words = format!("ascii \"{}\"", refusal.sentence());
-            let says = if refusal.place().is_some() { format!("placedOf ({words}) place") } else { words };
-            let line = format!("wordsOf {name} = {says}");
+            let says = if refusal.place().is_some() { format!("placed_of ({words}) place") } else { words };
+            let line = format!("words_of {name} = {says}");
             assert!(LINES.lines().any(|theirs| theirs == line), "{line}");
         }
         // These and the answer of success are all that it has.
-        assert_eq!(LINES.lines().filter(|line| line.starts_with("wordsOf ") && line.contains('=')).count(), named.len() + 1);
+        assert_eq!(LINES.lines().filter(|line| line.starts_with("words_of ") && line.contains('=')).count(), named.len() + 1);
     }
 
     /// The text is the sentence, and then the place as `bounce` words it.
     #[test]
     fn a_refusal_says_where() {
-        assert!(LINES.contains(r#"placedOf words place = words ++ ascii ", at byte " ++ decimalOf place"#));
+        assert!(LINES.contains(r#"placed_of words place = words ++ ascii ", at byte " ++ decimal_of place"#));
         assert_eq!(Refusal::Header { place: 4 }.to_string(), "the bundle's header differs, at byte 4");
         let entry = Refusal::Entry { buffer: Buffer::Curves, place: 8 };
         assert_eq!(entry.to_string(), "an entry of the curves is unusable, at byte 8");
