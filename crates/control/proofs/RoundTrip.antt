@@ -10,7 +10,7 @@ use lib.Dec.{leb, eqb}
 use lib.IntN.{ℤ, pos, negsuc}
 use lib.ListN.{length, take, drop}
 use lib.Seq.{drop-cons, take-add, take_all, drop-drop}
-use lib.Ieee.{Float, binary32, of_bits, to_bits, fits}
+use lib.Ieee.{Float, binary32, of_bits, to_bits}
 use lib.Ieee.Bits.{of_bits-to_bits, to_bits-lt}
 use mir.Syntax.{w16}
 use mir.Val.{of_z, SFits, bool_byte}

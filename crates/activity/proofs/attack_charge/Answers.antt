@@ -1,5 +1,4 @@
 use Rattle.activity.specs.Activity.{attack_charge_of}
-use borrow.Author.Rules.{rules}
 use Rattle.activity.proofs.attack_charge.Goals as goal
 
 pub returns : goal.returns

@@ -1,5 +1,4 @@
 use Rattle.activity.specs.Activity.{load_coefficient_of}
-use borrow.Author.Rules.{rules}
 use Rattle.activity.proofs.load_coefficient.Goals as goal
 
 pub returns : goal.returns

@@ -1,5 +1,4 @@
 use Rattle.activity.specs.Activity.{mixer_activity_gain_of}
-use borrow.Author.Rules.{rules}
 use Rattle.activity.proofs.mixer_activity_gain.Goals as goal
 
 pub returns : goal.returns

@@ -1,5 +1,4 @@
 use Rattle.activity.specs.Activity.{mixer_output_of}
-use borrow.Author.Rules.{rules}
 use Rattle.activity.proofs.mixer_output.Goals as goal
 
 pub returns-then-quiescent : goal.returns-then-quiescent

@@ -1,5 +1,4 @@
 use Rattle.activity.specs.Activity.{three_voice_activity_of}
-use borrow.Author.Rules.{rules}
 use Rattle.activity.proofs.three_voice_activity.Goals as goal
 
 pub returns : goal.returns

@@ -1,5 +1,4 @@
 use Rattle.activity.specs.Activity.{two_voice_volume_gain_of}
-use borrow.Author.Rules.{rules}
 use Rattle.activity.proofs.two_voice_volume_gain.Goals as goal
 
 pub returns : goal.returns

@@ -1,4 +1,3 @@
-use borrow.Author.Rules.{rules}
 use Rattle.answers.proofs.report.Goals as goal
 
 pub returns : goal.returns

@@ -1,4 +1,3 @@
-use borrow.Author.Rules.{rules}
 use borrow.Author.Tests.{eq-eqb, ne_eqb, le-leb, lt-leb}
 use Rattle.bundle.specs.Opening.{check_of}
 use Rattle.bundle.proofs.check.Goals as goal

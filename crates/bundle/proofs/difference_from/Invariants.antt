@@ -1,12 +1,7 @@
 -- The invariant: each byte passed is the header's. The loop ends at the one index of which `first-is` speaks.
 use Prim.Native.Nat.{ℕ, ◌-◌, ◌≤◌, ◌<◌}
-use mathlib.Core.Path.{◌≡◌, sym, ◌∙◌}
+use mathlib.Core.Path.{◌≡◌}
 use mathlib.Core.Bool.{true}
-use native.Mathlib.Omega.{arith}
-use borrow.Author.Count.{below_more}
-use borrow.Author.Rules.{rules}
-use borrow.Author.Tests.{eq-eqb, ne_eqb}
-use Rattle.wire.proofs.First.{first_is}
 use Rattle.bundle.specs.Layout.{header_length}
 use Rattle.bundle.specs.Opening.{header_byte}
 use Rattle.bundle.proofs.difference_from.Given as goal

@@ -1,6 +1,5 @@
 -- A signed parameter is read as what its bits stand for, which `to_z-of_z` turns into itself.
 use mathlib.Core.Path.{◌≡◌, ap, ◌∙◌}
-use borrow.Author.Rules.{rules}
 use Prim.Native.Nat.{ℕ}
 use lib.IntN.{ℤ}
 use mir.Syntax.{w16}

@@ -1,8 +1,7 @@
 -- The invariant: each byte of the words passed is the header's.
 use Prim.Native.Nat.{ℕ, ◌+◌, ◌-◌, ◌*◌, ◌≤◌, ◌<◌}
 use mathlib.Core.Path.{◌≡◌, refl, sym, ap}
-use mathlib.Core.Bool.{true}
-use mathlib.Core.List.{List, ◌∷◌}
+use mathlib.Core.List.{List}
 use lib.ListN.{get_or}
 use mathlib.Core.Logic.{⊎_elim}
 use native.Mathlib.Omega.{arith}
@@ -10,7 +9,7 @@ use borrow.Author.Count.{below_none}
 use borrow.Author.Rules.{rules}
 use Rattle.wire.proofs.Laws.{le_or_lt}
 use Rattle.wire.proofs.First.{first_is}
-use Rattle.bundle.specs.Layout.{bundle_length, header_length, sections, pairs}
+use Rattle.bundle.specs.Layout.{header_length}
 use Rattle.bundle.specs.Opening.{header_byte}
 use Rattle.bundle.proofs.first_difference.Goals as goal
 

@@ -1,17 +1,9 @@
 -- The invariant: each byte of the words passed is the header's.
-use Prim.Native.Nat.{ℕ, ◌+◌, ◌-◌, ◌*◌, ◌≤◌, ◌<◌}
-use mathlib.Core.Path.{◌≡◌, refl, sym, ap}
+use Prim.Native.Nat.{ℕ, ◌-◌, ◌*◌, ◌≤◌, ◌<◌}
+use mathlib.Core.Path.{◌≡◌}
 use mathlib.Core.Bool.{true}
-use mathlib.Core.List.{List, ◌∷◌}
-use lib.ListN.{get_or}
-use mathlib.Core.Logic.{⊎_elim}
-use native.Mathlib.Omega.{arith}
-use borrow.Author.Count.{below_none}
-use borrow.Author.Rules.{rules}
-use borrow.Author.Tests.{not-false}
-use Rattle.wire.proofs.Laws.{le_or_lt}
-use Rattle.wire.proofs.First.{first_is}
-use Rattle.bundle.specs.Layout.{bundle_length, header_length, sections, pairs}
+use mathlib.Core.List.{◌∷◌}
+use Rattle.bundle.specs.Layout.{bundle_length, sections, pairs}
 use Rattle.bundle.specs.Opening.{header_byte}
 use Rattle.bundle.proofs.first_difference.Given as goal
 

@@ -2,7 +2,6 @@ use mathlib.Core.Path.{sym, ◌∙◌}
 use native.Mathlib.Omega.{arith}
 use borrow.Author.Tests.{eqb-true}
 use Rattle.bundle.proofs.Laws.{word_told}
-use borrow.Author.Rules.{rules}
 use Rattle.bundle.proofs.has_word.Goals as goal
 
 pub returns : goal.returns

@@ -1,6 +1,5 @@
 use mathlib.Core.Path.{sym}
 use mathlib.Core.List.{◌∷◌}
-use borrow.Author.Rules.{rules}
 use Rattle.bundle.specs.Layout.{bundle_length, sections, pairs, header}
 use Rattle.bundle.proofs.Laws.{byte_of_words}
 use Rattle.bundle.proofs.header_byte.Goals as goal

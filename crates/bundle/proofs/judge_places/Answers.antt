@@ -1,8 +1,7 @@
 -- The invariant: what is to be said of all places is what is to be said of those not yet passed.
-use Prim.Native.Nat.{◌-◌, ◌≤◌}
-use mathlib.Core.Path.{◌≡◌, refl, sym, ap, ◌∙◌}
+use mathlib.Core.Path.{refl, sym, ap, ◌∙◌}
 use native.Mathlib.Omega.{arith}
-use lib.ListN.{length, drop, drop_of_length-le}
+use lib.ListN.{drop_of_length-le}
 use borrow.Author.Rules.{rules}
 use Rattle.bundle.specs.Opening.{judge_places_of}
 use Rattle.bundle.proofs.Laws.{judge_on, judge_off}

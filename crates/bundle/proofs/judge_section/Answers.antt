@@ -1,4 +1,3 @@
-use borrow.Author.Rules.{rules}
 use borrow.Author.Tests.{le-leb, lt-leb}
 use Rattle.bundle.specs.Opening.{judge_section_of}
 use Rattle.bundle.proofs.judge_section.Goals as goal

@@ -1,4 +1,3 @@
-use borrow.Author.Rules.{rules}
 use Rattle.bundle.specs.Opening.{open_of}
 use Rattle.bundle.proofs.open.Goals as goal
 

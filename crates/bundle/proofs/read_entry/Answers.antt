@@ -1,6 +1,5 @@
 use Rattle.bundle.specs.Opening.{judge_places_of}
 use Rattle.bundle.specs.Reading.{read_of}
-use borrow.Author.Rules.{rules}
 use Rattle.bundle.proofs.read_entry.Goals as goal
 
 pub returns-then-usable : goal.returns-then-usable

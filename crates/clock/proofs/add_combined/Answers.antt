@@ -1,4 +1,3 @@
-use borrow.Author.Rules.{rules}
 use Rattle.clock.proofs.add_combined.Goals as goal
 
 pub returns-then-signal : goal.returns-then-signal

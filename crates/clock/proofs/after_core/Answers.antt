@@ -1,6 +1,5 @@
 use Rattle.clock.specs.Clock.{after_core_of}
 use mathlib.Core.Path.{refl}
-use borrow.Author.Rules.{rules}
 use Rattle.clock.proofs.after_core.Goals as goal
 
 pub returns-in-Refused : goal.returns-in-Refused

@@ -1,5 +1,4 @@
 use Rattle.clock.specs.Transients.{attacked_of}
-use borrow.Author.Rules.{rules}
 use borrow.Author.Tests.{eq-eqb, ne_eqb}
 use Rattle.clock.proofs.attacked.Goals as goal
 

@@ -1,5 +1,4 @@
 use Rattle.clock.proofs.Parts.{parts_are_clock}
-use borrow.Author.Rules.{rules}
 use Rattle.clock.proofs.clock.Goals as goal
 
 pub returns : goal.returns

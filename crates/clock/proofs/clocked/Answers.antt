@@ -1,6 +1,5 @@
 use mathlib.Core.Bool.{true, false}
 use Rattle.clock.proofs.Told.{clocked_told}
-use borrow.Author.Rules.{rules}
 use Rattle.clock.proofs.clocked.Goals as goal
 
 pub returns-then-is_finite : goal.returns-then-is_finite

@@ -1,6 +1,5 @@
 use Rattle.clock.specs.Transients.{combined_activity_of}
 use lib.Ieee.{neg, of_bits}
-use borrow.Author.Rules.{rules}
 use Rattle.clock.proofs.combined_activity.Goals as goal
 
 pub returns : goal.returns

@@ -1,5 +1,4 @@
 use Rattle.clock.specs.Transients.{factors_of}
-use borrow.Author.Rules.{rules}
 use Rattle.clock.proofs.factors_of.Goals as goal
 
 pub returns : goal.returns

@@ -1,5 +1,4 @@
 use mathlib.Core.Path.{refl}
-use borrow.Author.Rules.{rules}
 use Rattle.clock.proofs.finite_after.Goals as goal
 
 pub returns-then-is_finite : goal.returns-then-is_finite

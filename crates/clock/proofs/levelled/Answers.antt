@@ -1,6 +1,5 @@
 use Rattle.clock.specs.Clock.{levelled_of}
 use mathlib.Core.Path.{refl}
-use borrow.Author.Rules.{rules}
 use Rattle.clock.proofs.levelled.Goals as goal
 
 pub returns-in-Refused : goal.returns-in-Refused

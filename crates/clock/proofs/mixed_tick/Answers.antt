@@ -1,6 +1,5 @@
 use Rattle.clock.specs.Clock.{mixed_tick_of}
 use mathlib.Core.Path.{refl}
-use borrow.Author.Rules.{rules}
 use Rattle.clock.proofs.mixed_tick.Goals as goal
 
 pub returns-in-Refused : goal.returns-in-Refused

@@ -1,4 +1,3 @@
-use borrow.Author.Rules.{rules}
 use Rattle.clock.proofs.slots_of.Goals as goal
 
 pub returns : goal.returns

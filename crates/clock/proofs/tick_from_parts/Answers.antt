@@ -1,7 +1,6 @@
 use mathlib.Core.Path.{◌∙◌}
 use Rattle.clock.specs.Clock.{tick_from_parts_of}
 use Rattle.clock.proofs.Told.{tick_on, tick_off}
-use borrow.Author.Rules.{rules}
 use Rattle.clock.proofs.tick_from_parts.Goals as goal
 
 pub returns-then-is_finite : goal.returns-then-is_finite

@@ -1,5 +1,4 @@
 use Rattle.clock.specs.Clock.{tick_signals_of}
-use borrow.Author.Rules.{rules}
 use Rattle.clock.proofs.tick_signals.Goals as goal
 
 pub returns : goal.returns

@@ -1,4 +1,3 @@
-use borrow.Author.Rules.{rules}
 use Rattle.clock.proofs.tracked_blend.Goals as goal
 
 pub returns : goal.returns

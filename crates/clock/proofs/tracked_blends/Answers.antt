@@ -1,5 +1,4 @@
 use Rattle.clock.specs.Transients.{tracked_blends_of}
-use borrow.Author.Rules.{rules}
 use Rattle.clock.proofs.tracked_blends.Goals as goal
 
 pub returns : goal.returns

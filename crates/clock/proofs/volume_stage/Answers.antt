@@ -1,5 +1,4 @@
 use Rattle.clock.specs.Clock.{volume_stage_of}
-use borrow.Author.Rules.{rules}
 use Rattle.clock.proofs.volume_stage.Goals as goal
 
 pub returns-then-configured : goal.returns-then-configured

@@ -1,5 +1,4 @@
 use mathlib.Core.Path.{refl}
-use borrow.Author.Rules.{rules}
 use Rattle.constants.specs.Values.{filter_single_mode_cutoff_gain}
 use Rattle.constants.specs.Tables.{single_mode_cutoff_gain_of}
 use Rattle.constants.proofs.Tables.{past_rows}

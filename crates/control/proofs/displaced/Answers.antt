@@ -1,4 +1,3 @@
-use borrow.Author.Rules.{rules}
 use Rattle.control.proofs.Laws.{wide_fits, sum_fits, displaced_told, displaced_cast}
 use Rattle.control.proofs.displaced.Goals as goal
 

@@ -2,7 +2,6 @@ use mathlib.Core.Path.{ap, ◌∙◌}
 use lib.Ieee.{binary32, of_int}
 use mir.Syntax.{w16, w32}
 use mir.ValLaws.{to_z-of_z}
-use borrow.Author.Rules.{rules}
 use Rattle.control.proofs.Laws.{displacement_told}
 use Rattle.control.proofs.displacement.Goals as goal
 

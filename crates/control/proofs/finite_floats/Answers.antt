@@ -1,5 +1,4 @@
 use Rattle.control.specs.Block.{finite_floats_of}
-use borrow.Author.Rules.{rules}
 use Rattle.control.proofs.finite_floats.Goals as goal
 
 pub returns : goal.returns

@@ -1,5 +1,4 @@
 use Rattle.control.specs.Block.{integrator_fields_of}
-use borrow.Author.Rules.{rules}
 use Rattle.control.proofs.integrator_fields.Goals as goal
 
 pub returns : goal.returns

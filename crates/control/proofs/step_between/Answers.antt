@@ -1,4 +1,3 @@
-use borrow.Author.Rules.{rules}
 use Rattle.control.proofs.Laws.{step_fits, step_is}
 use Rattle.control.proofs.step_between.Goals as goal
 

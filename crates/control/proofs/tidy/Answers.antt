@@ -1,5 +1,4 @@
 use Rattle.control.specs.Block.{tidy_of}
-use borrow.Author.Rules.{rules}
 use Rattle.control.proofs.tidy.Goals as goal
 
 pub returns : goal.returns

@@ -1,5 +1,4 @@
 use Rattle.controls.specs.Judging.{finite_controls_of}
-use borrow.Author.Rules.{rules}
 use Rattle.controls.proofs.finite_controls.Goals as goal
 
 pub returns : goal.returns

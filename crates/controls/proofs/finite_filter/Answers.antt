@@ -1,5 +1,4 @@
 use Rattle.controls.specs.Judging.{finite_filter_of}
-use borrow.Author.Rules.{rules}
 use Rattle.controls.proofs.finite_filter.Goals as goal
 
 pub returns : goal.returns

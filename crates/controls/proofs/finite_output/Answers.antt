@@ -1,5 +1,4 @@
 use Rattle.controls.specs.Judging.{finite_output_of}
-use borrow.Author.Rules.{rules}
 use Rattle.controls.proofs.finite_output.Goals as goal
 
 pub returns : goal.returns

@@ -1,5 +1,4 @@
 use Rattle.controls.specs.Controls.{refresh_register_output_state_of}
-use borrow.Author.Rules.{rules}
 use Rattle.controls.proofs.refresh_register_output_state.Goals as goal
 
 pub returns : goal.returns

@@ -1,4 +1,3 @@
-use borrow.Author.Rules.{rules}
 use Rattle.controls.proofs.resonance_output_gain.Goals as goal
 
 pub returns : goal.returns

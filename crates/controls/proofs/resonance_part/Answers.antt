@@ -1,4 +1,3 @@
-use borrow.Author.Rules.{rules}
 use Rattle.controls.proofs.resonance_part.Goals as goal
 
 pub returns : goal.returns

@@ -2,7 +2,6 @@ use Prim.Native.Nat.{min}
 use mathlib.Core.Path.{◌≡◌}
 use native.Mathlib.Omega.{arith}
 use Rattle.curves.specs.Inner.{blend_of}
-use borrow.Author.Rules.{rules}
 use Rattle.curves.proofs.blend.Goals as goal
 
 pub row_entry-requires : goal.row_entry-requires

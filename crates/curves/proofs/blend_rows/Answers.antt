@@ -1,10 +1,9 @@
 -- The invariant: the first k entries stand at the front of the row.
-use Prim.Native.Nat.{ℕ, ◌-◌, ◌*◌, ◌≤◌}
+use Prim.Native.Nat.{ℕ, ◌*◌}
 use mathlib.Core.Path.{◌≡◌, refl, ap, ◌∙◌}
 use mathlib.Core.List.{List}
 use lib.Ieee.{Float}
 use native.Mathlib.Omega.{arith}
-use lib.ListN.{length}
 use borrow.Author.Rules.{rules}
 use Rattle.wire.specs.Wire.{float_bytes, put_at, rows}
 use Rattle.curves.specs.Inner.{row_length, blend_of, blend_rows_of}

@@ -1,16 +1,11 @@
 -- The invariant: the first k entries stand at the front of the row.
-use Prim.Native.Nat.{ℕ, ◌-◌, ◌*◌, ◌≤◌}
-use mathlib.Core.Path.{◌≡◌, refl, ap, ◌∙◌}
+use Prim.Native.Nat.{ℕ, ◌-◌, ◌≤◌}
+use mathlib.Core.Path.{◌≡◌}
 use mathlib.Core.List.{List}
 use lib.Ieee.{Float}
-use native.Mathlib.Omega.{arith}
 use lib.ListN.{length}
-use borrow.Author.Rules.{rules}
 use Rattle.wire.specs.Wire.{float_bytes, put_at, rows}
-use Rattle.curves.specs.Inner.{row_length, blend_of, blend_rows_of}
-use Rattle.wire.proofs.Laws.{front_none, front_more, front_all}
-use Rattle.wire.proofs.Floats.{length-float_bytes}
-use Rattle.curves.proofs.Building.{last_again}
+use Rattle.curves.specs.Inner.{blend_of}
 use Rattle.curves.proofs.blend_rows.Given as goal
 
 abbrev pub bytes : List ℕ → List ℕ → Float → ℕ → ℕ → List ℕ

@@ -1,5 +1,4 @@
 use mathlib.Core.Path.{sym, ◌∙◌}
-use borrow.Author.Rules.{rules}
 use Rattle.answers.proofs.Laws.{done_is}
 use Rattle.curves.specs.Building.{build_of}
 use Rattle.curves.proofs.Building.{build_done}

@@ -1,15 +1,9 @@
 -- The invariant: the curves so far stand at the front of the buffer.
-use borrow.Rule.Slice.PartMut.{put_mid}
-use Rattle.wire.proofs.Laws.{length_part, length-put_at, front_none, front_more, front_all}
-use Rattle.curves.proofs.Building.{put_part, length_curve}
-use Prim.Native.Nat.{ℕ, ◌+◌, ◌-◌, ◌*◌, ◌≤◌}
-use mathlib.Core.Path.{◌≡◌, refl, ap, ◌∙◌}
-use mathlib.Core.List.{List}
-use native.Mathlib.Omega.{arith}
+use Prim.Native.Nat.{◌-◌, ◌≤◌}
+use mathlib.Core.Path.{◌≡◌}
 use lib.ListN.{length}
-use borrow.Author.Rules.{rules}
 use Rattle.wire.specs.Wire.{put_at, rows}
-use Rattle.curves.specs.Building.{curve_length, build_curve_of, build_curves_of}
+use Rattle.curves.specs.Building.{build_curve_of}
 use Rattle.curves.proofs.build_curves.Given as goal
 
 abbrev pub invariant-loop-curve : goal.invariant-loop-curve

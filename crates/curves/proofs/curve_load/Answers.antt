@@ -1,6 +1,5 @@
 use borrow.Author.Tests.{lt-ltb, le-ltb}
 use Rattle.curves.specs.Building.{curve_load_of}
-use borrow.Author.Rules.{rules}
 use Rattle.curves.proofs.curve_load.Goals as goal
 
 pub returns-then-curve-lt7 : goal.returns-then-curve-lt7

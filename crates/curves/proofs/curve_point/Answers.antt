@@ -1,7 +1,6 @@
 use native.Mathlib.Omega.{arith}
 use Rattle.curves.specs.Sampling.{sample_curve_of, sample_curve_places_of, curve_point_of}
 use Rattle.curves.proofs.Laws.{input_lower, input_upper}
-use borrow.Author.Rules.{rules}
 use Rattle.curves.proofs.curve_point.Goals as goal
 
 -- either index fits

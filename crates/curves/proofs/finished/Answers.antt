@@ -1,6 +1,5 @@
 use borrow.Author.Tests.{lt-ltb, le-ltb}
 use Rattle.curves.specs.Building.{finished_of}
-use borrow.Author.Rules.{rules}
 use Rattle.curves.proofs.finished.Goals as goal
 
 pub returns-then-curve-lt15 : goal.returns-then-curve-lt15

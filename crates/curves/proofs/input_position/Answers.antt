@@ -1,5 +1,4 @@
 use Rattle.curves.specs.Sampling.{input_position_of}
-use borrow.Author.Rules.{rules}
 use Rattle.curves.proofs.input_position.Goals as goal
 
 pub returns : goal.returns

@@ -2,7 +2,6 @@ use mathlib.Core.Path.{◌≡◌}
 use Rattle.answers.specs.Answers.{first_of}
 use Rattle.bundle.specs.Opening.{check_of}
 use Rattle.curves.specs.Building.{judge_length_of, judge_build_of}
-use borrow.Author.Rules.{rules}
 use Rattle.curves.proofs.judge_build.Goals as goal
 use Rattle.curves.proofs.judge_build.Goals.{After-first-checked}
 

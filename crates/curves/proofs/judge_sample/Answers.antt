@@ -1,4 +1,3 @@
-use borrow.Author.Rules.{rules}
 use Rattle.curves.proofs.judge_sample.Goals as goal
 
 pub returns : goal.returns

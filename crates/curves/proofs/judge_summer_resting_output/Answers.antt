@@ -1,7 +1,6 @@
 use borrow.Author.Tests.{le-leb, lt-leb}
 use Rattle.bundle.specs.Opening.{judge_places_of}
 use Rattle.curves.specs.Sampling.{summer_resting_places_of}
-use borrow.Author.Rules.{rules}
 use Rattle.curves.proofs.judge_summer_resting_output.Goals as goal
 
 pub returns-then-count-ge2 : goal.returns-then-count-ge2

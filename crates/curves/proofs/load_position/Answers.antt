@@ -1,7 +1,6 @@
 use native.Mathlib.Omega.{arith}
 use Rattle.floats.proofs.Range.{load_index}
 use Rattle.curves.specs.Sampling.{load_position_of}
-use borrow.Author.Rules.{rules}
 use Rattle.curves.proofs.load_position.Goals as goal
 
 pub overflow_mul-result : goal.overflow_mul-result

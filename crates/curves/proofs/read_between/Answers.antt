@@ -3,7 +3,6 @@ use mathlib.Core.List.{[], ◌∷◌}
 use Rattle.bundle.proofs.Laws.{judge_append}
 use Rattle.bundle.proofs.Reading.{first_refused, second_refused, both_read}
 use Rattle.response.specs.Levels.{interpolate_of}
-use borrow.Author.Rules.{rules}
 use Rattle.curves.proofs.read_between.Goals as goal
 
 pub returns-in-Refused : goal.returns-in-Refused

@@ -2,7 +2,6 @@ use Prim.Native.Nat.{◌≤◌}
 use native.Mathlib.Omega.{arith}
 use Rattle.curves.specs.Sampling.{input_position_of, sample_curve_of, sample_curve_places_of}
 use Rattle.curves.proofs.Laws.{input_lower, next_place}
-use borrow.Author.Rules.{rules}
 use Rattle.curves.proofs.read_curve.Goals as goal
 
 pub curve_place-lower-requires : goal.curve_place-lower-requires

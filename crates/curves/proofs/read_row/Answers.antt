@@ -1,4 +1,3 @@
-use borrow.Author.Rules.{rules}
 use Rattle.curves.proofs.read_row.Goals as goal
 
 pub returns : goal.returns

@@ -3,7 +3,6 @@ use Rattle.bundle.proofs.Reading.{first_refused, second_refused, both_read}
 use Rattle.response.specs.Levels.{interpolate_of}
 use Rattle.curves.specs.Sampling.{sample_of, sample_at_of, sample_places_of}
 use Rattle.curves.proofs.Laws.{load_lower, load_upper, input_lower, input_upper, corners_apart}
-use borrow.Author.Rules.{rules}
 use Rattle.curves.proofs.read_sample.Goals as goal
 
 pub read_row-lower-requires : goal.read_row-lower-requires

@@ -2,7 +2,6 @@ use mathlib.Core.Path.{ap, ◌∙◌}
 use lib.Ieee.{binary32, of_bits}
 use Rattle.wire.specs.Wire.{usable_of}
 use Rattle.wire.proofs.Floats.{usable_no_nan}
-use borrow.Author.Rules.{rules}
 use Rattle.curves.proofs.row_entry.Goals as goal
 
 pub float_from_bits-result : goal.float_from_bits-result

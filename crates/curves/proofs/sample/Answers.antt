@@ -1,5 +1,4 @@
 use Rattle.curves.specs.Sampling.{sample_of, sample_at_of, sample_places_of, corners_of}
-use borrow.Author.Rules.{rules}
 use Rattle.curves.proofs.sample.Goals as goal
 
 pub returns : goal.returns

@@ -1,5 +1,4 @@
 use Rattle.curves.specs.Sampling.{curve_point_of}
-use borrow.Author.Rules.{rules}
 use Rattle.curves.proofs.sample_curve.Goals as goal
 
 pub returns : goal.returns

@@ -1,7 +1,6 @@
 use native.Mathlib.Omega.{arith}
 use Rattle.curves.specs.Sampling.{sample_curve_places_of}
 use Rattle.curves.proofs.Laws.{input_lower}
-use borrow.Author.Rules.{rules}
 use Rattle.curves.proofs.sample_curve_places.Goals as goal
 
 pub curve_place-requires : goal.curve_place-requires

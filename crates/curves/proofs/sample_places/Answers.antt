@@ -2,7 +2,6 @@ use Rattle.curves.specs.Sampling.{last_input, last_base, sample_places_of, corne
 use Rattle.curves.proofs.Laws.{load_lower, load_upper, input_lower, input_upper}
 use Prim.Native.Nat.{◌≤◌}
 use native.Mathlib.Omega.{arith}
-use borrow.Author.Rules.{rules}
 use Rattle.curves.proofs.sample_places.Goals as goal
 use Rattle.curves.proofs.sample_places.Goals.{After-input_position-at}
 

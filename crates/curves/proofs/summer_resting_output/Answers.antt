@@ -1,6 +1,5 @@
 use borrow.Author.Tests.{le-leb, lt-leb}
 use Rattle.curves.specs.Sampling.{summer_resting_output_of}
-use borrow.Author.Rules.{rules}
 use Rattle.curves.proofs.summer_resting_output.Goals as goal
 
 pub returns-then-count-ge2 : goal.returns-then-count-ge2

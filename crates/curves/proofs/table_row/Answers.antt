@@ -3,7 +3,6 @@ use mathlib.Core.Path.{◌≡◌}
 use native.Mathlib.Omega.{arith}
 use Rattle.curves.specs.Sampling.{table_place}
 use Rattle.curves.specs.Inner.{row_length, table_row_of}
-use borrow.Author.Rules.{rules}
 use Rattle.curves.proofs.table_row.Goals as goal
 
 pub returns : goal.returns

@@ -1,5 +1,4 @@
 use Rattle.curves.specs.Building.{volume_entry_of}
-use borrow.Author.Rules.{rules}
 use Rattle.curves.proofs.volume_entry.Goals as goal
 
 pub returns : goal.returns

@@ -1,5 +1,4 @@
 use Rattle.direct.specs.Calls.{advance_call_of, advance_answer_of}
-use borrow.Author.Rules.{rules}
 use Rattle.direct.proofs.advance.Goals as goal
 
 pub returns : goal.returns

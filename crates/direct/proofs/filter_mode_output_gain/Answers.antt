@@ -1,5 +1,4 @@
 use Rattle.direct.specs.Calls.{filter_mode_output_gain_call_of, filter_mode_output_gain_answer_of}
-use borrow.Author.Rules.{rules}
 use Rattle.direct.proofs.filter_mode_output_gain.Goals as goal
 
 pub returns : goal.returns

@@ -1,5 +1,4 @@
 use Rattle.direct.specs.Calls.{filter_output_common_mode_call_of}
-use borrow.Author.Rules.{rules}
 use Rattle.direct.proofs.filter_output_common_mode.Goals as goal
 
 pub returns : goal.returns

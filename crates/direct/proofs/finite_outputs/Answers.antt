@@ -1,4 +1,3 @@
-use borrow.Author.Rules.{rules}
 use Rattle.direct.proofs.finite_outputs.Goals as goal
 
 pub returns : goal.returns

@@ -1,6 +1,5 @@
 use Rattle.bundle.specs.Opening.{judge_places_of}
 use Rattle.direct.specs.Calls.{judge_loading_of}
-use borrow.Author.Rules.{rules}
 use borrow.Author.Tests.{eq-eqb, ne_eqb}
 use Rattle.direct.proofs.judge_loading.Goals as goal
 

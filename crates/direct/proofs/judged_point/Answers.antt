@@ -1,5 +1,4 @@
 use mathlib.Core.Path.{refl, sym, ◌∙◌}
-use borrow.Author.Rules.{rules}
 use Rattle.direct.proofs.judged_point.Goals as goal
 
 pub returns-then-is_done : goal.returns-then-is_done

@@ -1,5 +1,4 @@
 use Rattle.direct.specs.Calls.{mixer_transfer_call_of, mixer_answer_of}
-use borrow.Author.Rules.{rules}
 use Rattle.direct.proofs.mixer_transfer.Goals as goal
 
 pub returns : goal.returns

@@ -1,5 +1,4 @@
 use Rattle.direct.specs.Calls.{mixing_topology_call_of}
-use borrow.Author.Rules.{rules}
 use Rattle.direct.proofs.mixing_topology.Goals as goal
 
 pub returns : goal.returns

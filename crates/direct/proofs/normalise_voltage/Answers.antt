@@ -1,5 +1,4 @@
 use Rattle.direct.specs.Calls.{normalise_voltage_call_of}
-use borrow.Author.Rules.{rules}
 use Rattle.direct.proofs.normalise_voltage.Goals as goal
 
 pub returns : goal.returns

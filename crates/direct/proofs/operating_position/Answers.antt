@@ -1,5 +1,4 @@
 use Rattle.direct.specs.Calls.{operating_position_call_of}
-use borrow.Author.Rules.{rules}
 use Rattle.direct.proofs.operating_position.Goals as goal
 
 pub returns : goal.returns

@@ -1,5 +1,4 @@
 use Rattle.direct.specs.Calls.{sample_call_of}
-use borrow.Author.Rules.{rules}
 use Rattle.direct.proofs.sample.Goals as goal
 
 pub returns : goal.returns

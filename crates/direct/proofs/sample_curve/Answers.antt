@@ -1,6 +1,5 @@
 use Rattle.direct.specs.Calls.{sample_curve_answer_of, sample_curve_call_of}
 use Rattle.direct.proofs.CurveNumber.{curve_above}
-use borrow.Author.Rules.{rules}
 use borrow.Author.Tests.{le-leb}
 use Rattle.direct.proofs.sample_curve.Goals as goal
 

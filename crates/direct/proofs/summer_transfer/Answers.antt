@@ -1,5 +1,4 @@
 use Rattle.direct.specs.Calls.{summer_transfer_call_of, summer_answer_of}
-use borrow.Author.Rules.{rules}
 use Rattle.direct.proofs.summer_transfer.Goals as goal
 
 pub returns : goal.returns

@@ -1,5 +1,4 @@
 use Rattle.direct.specs.Calls.{volume_dac_conductance_code_call_of}
-use borrow.Author.Rules.{rules}
 use Rattle.direct.proofs.volume_dac_conductance_code.Goals as goal
 
 pub returns : goal.returns

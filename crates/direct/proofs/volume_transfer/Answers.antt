@@ -1,5 +1,4 @@
 use Rattle.direct.specs.Calls.{volume_transfer_call_of, volume_answer_of}
-use borrow.Author.Rules.{rules}
 use Rattle.direct.proofs.volume_transfer.Goals as goal
 
 pub returns : goal.returns

@@ -1,4 +1,3 @@
-use borrow.Author.Rules.{rules}
 use Rattle.filter.proofs.after.Goals as goal
 
 pub returns-in-Taken : goal.returns-in-Taken

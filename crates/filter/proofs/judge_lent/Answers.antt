@@ -1,5 +1,4 @@
 use Rattle.filter.specs.Lent.{judge_tables_of}
-use borrow.Author.Rules.{rules}
 use Rattle.filter.proofs.judge_lent.Goals as goal
 
 pub returns : goal.returns

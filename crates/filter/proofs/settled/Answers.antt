@@ -1,4 +1,3 @@
-use borrow.Author.Rules.{rules}
 use Rattle.filter.proofs.settled.Goals as goal
 
 pub returns-then-is_done : goal.returns-then-is_done

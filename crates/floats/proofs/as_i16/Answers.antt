@@ -1,4 +1,4 @@
-use Rattle.std.proofs.Common.{◌≡◌, ℕ, min, pos, neg_ℤ, ap, ◌∙◌, arith, w16, rules}
+use Rattle.std.proofs.Common.{◌≡◌, ℕ, min, pos, neg_ℤ, ap, ◌∙◌, arith, w16}
 use mir.ValLaws.{to_z_pos}
 use Rattle.floats.proofs.Laws.{signed_at, minus_fits, minus_back}
 use Rattle.floats.proofs.as_i16.Goals as goal

@@ -1,5 +1,5 @@
 -- The shift is the law `shifted`; every other x goes by tests.
-use Rattle.std.proofs.Common.{T, sym, subst, arith, rules}
+use Rattle.std.proofs.Common.{T, sym, subst, arith}
 use lib.Ieee.{binary32}
 use Rattle.floats.proofs.Laws.{equal_no_nan, shifted}
 use Rattle.floats.proofs.as_usize.Goals as goal

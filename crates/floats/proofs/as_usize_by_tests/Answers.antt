@@ -1,4 +1,4 @@
-use Rattle.std.proofs.Common.{T, sym, subst, rules}
+use Rattle.std.proofs.Common.{T, sym, subst}
 use lib.Ieee.{of_bits, neg}
 use Rattle.floats.proofs.Laws.{cast_below, cast_above}
 use Rattle.floats.proofs.as_usize_by_tests.Goals as goal

@@ -1,4 +1,4 @@
-use Rattle.std.proofs.Common.{◌≡◌, ◌*◌, ◌%◌, mod-lt, add-one, arith, rules}
+use Rattle.std.proofs.Common.{◌≡◌, ◌*◌, ◌%◌, mod-lt, add-one, arith}
 use Rattle.floats.proofs.Narrowing.{quotient_few, compare_below, compare_above, compare_same}
 use Rattle.floats.proofs.closest.Goals as goal
 

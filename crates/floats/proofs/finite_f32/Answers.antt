@@ -1,5 +1,4 @@
 use Rattle.floats.specs.Floats.{finite_f32_of}
-use Rattle.std.proofs.Common.{rules}
 use Rattle.floats.proofs.finite_f32.Goals as goal
 
 pub returns : goal.returns

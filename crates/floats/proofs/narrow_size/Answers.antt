@@ -1,4 +1,4 @@
-use Rattle.std.proofs.Common.{ℕ, ◌+◌, ◌-◌, ◌*◌, ◌≤◌, ap, ◌∙◌, zero-add, arith, rules}
+use Rattle.std.proofs.Common.{ℕ, ◌+◌, ◌-◌, ◌*◌, ◌≤◌, ap, ◌∙◌, zero-add, arith}
 use lib.Ieee.{binary32, of_bits, div}
 use Rattle.floats.proofs.Narrowing.{tiny_field, low_field, normal_field, high_field, closest_few, shift_is, shift_low, shift_high, field_no_nan}
 use Rattle.floats.proofs.narrow_size.Goals as goal

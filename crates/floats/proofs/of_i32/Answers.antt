@@ -1,4 +1,4 @@
-use Rattle.std.proofs.Common.{ℤ, ap, ◌∙◌, w32, rules}
+use Rattle.std.proofs.Common.{ℤ, ap, ◌∙◌, w32}
 use mir.ValLaws.{to_z-of_z}
 use lib.Ieee.{binary32, of_int}
 use Rattle.floats.proofs.of_i32.Goals as goal

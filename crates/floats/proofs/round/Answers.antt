@@ -1,4 +1,4 @@
-use Rattle.std.proofs.Common.{T, sym, subst, arith, rules}
+use Rattle.std.proofs.Common.{T, sym, subst, arith}
 use Rattle.floats.proofs.Rounding.{zero_rounds, large_rounds, half_few, half_rounds}
 use Rattle.floats.proofs.round.Goals as goal
 

@@ -1,5 +1,4 @@
 use Rattle.frozen.specs.Frozen.{configured_of}
-use borrow.Author.Rules.{rules}
 use Rattle.frozen.proofs.configured.Goals as goal
 
 pub returns : goal.returns

@@ -1,10 +1,7 @@
-use Prim.Native.Nat.{◌-◌, ◌≤◌}
-use mathlib.Core.Path.{◌≡◌, refl, sym, ◌∙◌}
+use mathlib.Core.Path.{refl, sym, ◌∙◌}
 use native.Mathlib.Omega.{arith}
-use lib.ListN.{length, drop}
 use lib.Ieee.{neg, of_bits}
-use borrow.Author.Rules.{rules}
-use Rattle.frozen.specs.Frozen.{terms_of, weighted_sum_of, frozen_dac_operating_point_of}
+use Rattle.frozen.specs.Frozen.{terms_of, frozen_dac_operating_point_of}
 use Rattle.frozen.proofs.Laws.{one_row, no_row}
 use Rattle.frozen.proofs.frozen_dac_operating_point.Goals as goal
 

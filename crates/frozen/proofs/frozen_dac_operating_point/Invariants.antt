@@ -1,11 +1,7 @@
 use Prim.Native.Nat.{◌-◌, ◌≤◌}
-use mathlib.Core.Path.{◌≡◌, refl, sym, ◌∙◌}
-use native.Mathlib.Omega.{arith}
+use mathlib.Core.Path.{◌≡◌}
 use lib.ListN.{length, drop}
-use lib.Ieee.{neg, of_bits}
-use borrow.Author.Rules.{rules}
-use Rattle.frozen.specs.Frozen.{terms_of, weighted_sum_of, frozen_dac_operating_point_of}
-use Rattle.frozen.proofs.Laws.{one_row, no_row}
+use Rattle.frozen.specs.Frozen.{weighted_sum_of, frozen_dac_operating_point_of}
 use Rattle.frozen.proofs.frozen_dac_operating_point.Given as goal
 
 -- the rows and terms from i on are still to be added

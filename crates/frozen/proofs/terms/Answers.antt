@@ -1,5 +1,4 @@
 use Rattle.frozen.specs.Frozen.{terms_of}
-use borrow.Author.Rules.{rules}
 use Rattle.frozen.proofs.terms.Goals as goal
 
 pub returns : goal.returns

@@ -1,4 +1,3 @@
-use borrow.Author.Rules.{rules}
 use Rattle.frozen.proofs.volume_position.Goals as goal
 
 pub returns : goal.returns

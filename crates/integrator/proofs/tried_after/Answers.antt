@@ -1,5 +1,4 @@
 use Rattle.integrator.specs.Tried.{tried_after_of}
-use borrow.Author.Rules.{rules}
 use Rattle.integrator.proofs.tried_after.Goals as goal
 
 pub returns-in-Settled : goal.returns-in-Settled

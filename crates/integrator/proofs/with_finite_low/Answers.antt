@@ -1,5 +1,4 @@
 use Rattle.integrator.specs.Tried.{with_finite_low_of}
-use borrow.Author.Rules.{rules}
 use Rattle.integrator.proofs.with_finite_low.Goals as goal
 
 pub returns-then-is_finite : goal.returns-then-is_finite

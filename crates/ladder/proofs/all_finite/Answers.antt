@@ -1,12 +1,9 @@
-use Prim.Native.Nat.{◌≤◌, ◌-◌}
 use mathlib.Core.Path.{◌≡◌, refl}
 use native.Mathlib.Numerals.{add-one}
 use native.Mathlib.Omega.{arith}
-use lib.Ieee.Scale.{finite}
 use borrow.Author.Rules.{rules}
 use Rattle.wire.specs.First.{every}
 use Rattle.ladder.specs.Calls.{all_finite_of}
-use Rattle.ladder.specs.Ladder.{at}
 use Rattle.ladder.proofs.all_finite.Goals as goal
 
 pub loop-i-init : goal.loop-i-init

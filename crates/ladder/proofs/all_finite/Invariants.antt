@@ -1,11 +1,7 @@
 use Prim.Native.Nat.{◌≤◌, ◌-◌}
-use mathlib.Core.Path.{◌≡◌, refl}
-use native.Mathlib.Numerals.{add-one}
-use native.Mathlib.Omega.{arith}
+use mathlib.Core.Path.{◌≡◌}
 use lib.Ieee.Scale.{finite}
-use borrow.Author.Rules.{rules}
 use Rattle.wire.specs.First.{every}
-use Rattle.ladder.specs.Calls.{all_finite_of}
 use Rattle.ladder.specs.Ladder.{at}
 use Rattle.ladder.proofs.all_finite.Given as goal
 

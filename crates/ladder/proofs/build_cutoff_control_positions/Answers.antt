@@ -1,6 +1,5 @@
 use mathlib.Core.Bool.{true, false}
 use mathlib.Core.Path.{◌≡◌, ap, sym, ◌∙◌}
-use borrow.Author.Rules.{rules}
 use borrow.Author.Tests.{eq-eqb, ne_eqb}
 use Rattle.ladder.specs.Calls.{positions_finite_of, build_cutoff_control_positions_of}
 use Rattle.ladder.specs.Ladder.{cutoff_scale_of}

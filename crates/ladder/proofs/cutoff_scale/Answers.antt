@@ -1,4 +1,3 @@
-use borrow.Author.Rules.{rules}
 use Rattle.ladder.specs.Ladder.{cutoff_scale_of}
 use Rattle.ladder.proofs.cutoff_scale.Goals as goal
 

@@ -1,5 +1,4 @@
 -- At each of the twelve nodes the definition computes to the code's sum.
-use borrow.Author.Rules.{rules}
 use Rattle.ladder.specs.Ladder.{tabulated}
 use Rattle.ladder.proofs.diagonal.Goals as goal
 

@@ -1,4 +1,3 @@
-use borrow.Author.Rules.{rules}
 use Rattle.ladder.specs.Ladder.{driven_level_of}
 use Rattle.ladder.proofs.driven_level.Goals as goal
 

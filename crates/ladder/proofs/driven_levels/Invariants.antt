@@ -1,10 +1,7 @@
 -- The invariant: the levels below active are written.
 use Prim.Native.Nat.{◌≤◌, ◌-◌}
-use mathlib.Core.Path.{refl}
-use native.Mathlib.Omega.{arith}
-use borrow.Author.Rules.{rules}
 use Rattle.ladder.specs.Ladder.{driven_level_of}
-use Rattle.ladder.proofs.Laws.{Filled, filled_none, filled_up, filled_all}
+use Rattle.ladder.proofs.Laws.{Filled}
 use Rattle.ladder.proofs.driven_levels.Given as goal
 
 abbrev pub invariant-loop-active : goal.invariant-loop-active

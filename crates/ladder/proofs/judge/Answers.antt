@@ -1,4 +1,3 @@
-use borrow.Author.Rules.{rules}
 use Rattle.ladder.proofs.judge.Goals as goal
 
 pub returns : goal.returns

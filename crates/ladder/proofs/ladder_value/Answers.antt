@@ -1,4 +1,3 @@
-use borrow.Author.Rules.{rules}
 use Rattle.ladder.specs.Calls.{ladder_value_of}
 use Rattle.ladder.proofs.ladder_value.Goals as goal
 

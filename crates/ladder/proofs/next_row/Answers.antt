@@ -1,4 +1,3 @@
-use borrow.Author.Rules.{rules}
 use borrow.Author.Tests.{lt-ltb, le-ltb}
 use Rattle.ladder.specs.Ladder.{next_row_of}
 use Rattle.ladder.proofs.next_row.Goals as goal

@@ -1,11 +1,8 @@
 -- The invariant: the first i shares are written.
 use Prim.Native.Nat.{◌≤◌, ◌-◌}
-use mathlib.Core.Path.{refl}
-use native.Mathlib.Omega.{arith}
-use borrow.Author.Rules.{rules}
 use Rattle.ladder.specs.Arithmetic.{◌⧄◌}
 use Rattle.ladder.specs.Ladder.{at, total_of}
-use Rattle.ladder.proofs.Laws.{Filled, filled_none, filled_up, filled_all}
+use Rattle.ladder.proofs.Laws.{Filled}
 use Rattle.ladder.proofs.normalised.Given as goal
 
 abbrev pub invariant-loop-i : goal.invariant-loop-i

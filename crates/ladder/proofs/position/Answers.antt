@@ -1,4 +1,3 @@
-use borrow.Author.Rules.{rules}
 use Rattle.ladder.specs.Ladder.{position_of}
 use Rattle.ladder.proofs.position.Goals as goal
 

@@ -1,13 +1,11 @@
 -- The invariant: the positions below code are written, and the rest is as it was.
-use Prim.Native.Nat.{ℕ, ◌≤◌, ◌-◌}
-use mathlib.Core.List.{List}
+use Prim.Native.Nat.{ℕ}
 use mathlib.Core.Path.{◌≡◌, refl, ◌∙◌}
 use native.Mathlib.Omega.{arith}
 use lib.ListN.{length}
 use borrow.Author.Rules.{rules}
 use Rattle.wire.proofs.Laws.{front_none, front_more, front_all}
 use Rattle.wire.proofs.Floats.{length-float_bytes}
-use Rattle.wire.specs.Wire.{float_bytes, put_at, rows}
 use Rattle.ladder.specs.Calls.{position_bytes_of}
 use Rattle.ladder.specs.declared.Scale.{Scale}
 use Rattle.ladder.specs.Ladder.{position_of}

@@ -1,12 +1,9 @@
-use Prim.Native.Nat.{◌≤◌, ◌-◌}
 use mathlib.Core.Path.{◌≡◌, refl}
 use native.Mathlib.Numerals.{add-one}
 use native.Mathlib.Omega.{arith}
-use lib.Ieee.Scale.{finite}
 use borrow.Author.Rules.{rules}
 use Rattle.wire.specs.First.{every}
 use Rattle.ladder.specs.Calls.{positions_finite_of}
-use Rattle.ladder.specs.Ladder.{position_of}
 use Rattle.ladder.proofs.positions_finite.Goals as goal
 
 pub loop-code-init : goal.loop-code-init

@@ -1,4 +1,3 @@
-use borrow.Author.Rules.{rules}
 use Rattle.ladder.specs.Arithmetic.{f64}
 use Rattle.ladder.proofs.Laws.{tabulated_one}
 use Rattle.ladder.proofs.right_side.Goals as goal

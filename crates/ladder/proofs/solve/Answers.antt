@@ -1,4 +1,3 @@
-use borrow.Author.Rules.{rules}
 use Rattle.ladder.specs.Ladder.{solve_of}
 use Rattle.ladder.proofs.solve.Goals as goal
 

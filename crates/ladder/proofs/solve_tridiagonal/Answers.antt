@@ -1,4 +1,3 @@
-use borrow.Author.Rules.{rules}
 use Rattle.ladder.specs.Calls.{solve_tridiagonal_of}
 use Rattle.ladder.proofs.solve_tridiagonal.Goals as goal
 

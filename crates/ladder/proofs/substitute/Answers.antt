@@ -1,12 +1,12 @@
 -- The invariant: the entries from i on are the solution's.
-use Prim.Native.Nat.{◌≤◌, ◌-◌, ◌+◌}
+use Prim.Native.Nat.{◌-◌, ◌+◌}
 use mathlib.Core.Path.{refl}
 use native.Mathlib.Omega.{arith}
 use lib.ListN.{replicate}
 use borrow.Author.Rules.{rules}
 use Rattle.ladder.specs.Arithmetic.{f64}
 use Rattle.ladder.specs.Ladder.{result_from}
-use Rattle.ladder.proofs.Laws.{Filled, filled_none, filled_down, filled_all, result_row}
+use Rattle.ladder.proofs.Laws.{filled_none, filled_down, filled_all, result_row}
 use Rattle.ladder.proofs.substitute.Goals as goal
 
 pub loop-i-init : goal.loop-i-init

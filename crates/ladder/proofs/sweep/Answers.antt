@@ -1,12 +1,12 @@
 -- The invariant: row is row i - 1, and the first i entries of both arrays are those of the rows.
-use Prim.Native.Nat.{◌+◌, ◌-◌, ◌≤◌}
+use Prim.Native.Nat.{◌+◌, ◌-◌}
 use mathlib.Core.Path.{◌≡◌, refl, ap, ◌∙◌}
 use native.Mathlib.Omega.{arith}
 use lib.ListN.{replicate}
 use borrow.Author.Rules.{rules}
 use Rattle.ladder.specs.Ladder.{row_at}
 use Rattle.ladder.specs.declared.Row.{Row}
-use Rattle.ladder.proofs.Laws.{Filled, filled_none, filled_up, filled_all, row_next}
+use Rattle.ladder.proofs.Laws.{filled_none, filled_up, filled_all, row_next}
 use Rattle.ladder.proofs.sweep.Goals as goal
 
 pub loop-i-init : goal.loop-i-init

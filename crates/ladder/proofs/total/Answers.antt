@@ -1,9 +1,8 @@
 -- The invariant: sum is the sum of the first i.
-use Prim.Native.Nat.{◌≤◌, ◌-◌}
 use mathlib.Core.Path.{◌≡◌, refl}
 use native.Mathlib.Omega.{arith}
 use borrow.Author.Rules.{rules}
-use Rattle.ladder.specs.Ladder.{at, sum_of}
+use Rattle.ladder.specs.Ladder.{sum_of}
 use Rattle.ladder.proofs.Laws.{sum_more}
 use Rattle.ladder.proofs.total.Goals as goal
 

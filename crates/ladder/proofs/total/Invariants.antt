@@ -1,10 +1,7 @@
 -- The invariant: sum is the sum of the first i.
 use Prim.Native.Nat.{◌≤◌, ◌-◌}
-use mathlib.Core.Path.{◌≡◌, refl}
-use native.Mathlib.Omega.{arith}
-use borrow.Author.Rules.{rules}
+use mathlib.Core.Path.{◌≡◌}
 use Rattle.ladder.specs.Ladder.{at, sum_of}
-use Rattle.ladder.proofs.Laws.{sum_more}
 use Rattle.ladder.proofs.total.Given as goal
 
 abbrev pub invariant-loop-i : goal.invariant-loop-i

@@ -1,13 +1,10 @@
 -- The invariant: rest is the code without its lowest bits, and sum the sum over those.
-use Prim.Native.Nat.{◌≤◌, ◌-◌, ◌/◌, ◌^◌}
-use mathlib.Core.Logic.{⊎_elim}
 use mathlib.Core.Path.{◌≡◌, refl, sym}
 use native.Mathlib.Nat.{div-one}
 use native.Mathlib.Omega.{arith}
 use borrow.Author.Rules.{rules}
 use borrow.Author.Tests.{eq-eqb, ne_eqb}
-use Rattle.ladder.specs.Arithmetic.{◌⊠◌}
-use Rattle.ladder.specs.Ladder.{at, level_at, sum_of, value_of}
+use Rattle.ladder.specs.Ladder.{level_at, sum_of, value_of}
 use Rattle.ladder.proofs.Laws.{sum_more, halved}
 use Rattle.ladder.proofs.value.Goals as goal
 use Rattle.ladder.proofs.value.Goals.{then-rest-eq1, else-rest-eq1}

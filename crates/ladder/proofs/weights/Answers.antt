@@ -1,4 +1,3 @@
-use borrow.Author.Rules.{rules}
 use Rattle.ladder.specs.Ladder.{weights_of}
 use Rattle.ladder.proofs.weights.Goals as goal
 

@@ -1,5 +1,4 @@
 use mathlib.Core.Path.{◌∙◌}
-use borrow.Author.Rules.{rules}
 use Rattle.mixing.proofs.Routing.{row_count}
 use Rattle.mixing.proofs.filter_count.Goals as goal
 

@@ -1,4 +1,3 @@
-use borrow.Author.Rules.{rules}
 use Rattle.mixing.proofs.Laws.{line_told, filter_digit, bypass_digit, output_digit, mixer_digit}
 use Rattle.mixing.proofs.line.Goals as goal
 

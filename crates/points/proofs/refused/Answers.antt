@@ -1,4 +1,3 @@
-use borrow.Author.Rules.{rules}
 use Rattle.points.proofs.refused.Goals as goal
 
 pub returns : goal.returns

@@ -1,5 +1,4 @@
 use Rattle.points.proofs.Laws.{script_bytes}
-use borrow.Author.Rules.{rules}
 use Rattle.points.proofs.sample_script.Goals as goal
 
 pub returns : goal.returns

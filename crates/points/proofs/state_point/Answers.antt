@@ -1,5 +1,4 @@
 use Rattle.points.specs.Points.{state_point_of}
-use borrow.Author.Rules.{rules}
 use Rattle.points.proofs.state_point.Goals as goal
 
 pub returns-then-is_idle : goal.returns-then-is_idle

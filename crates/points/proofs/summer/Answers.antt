@@ -1,5 +1,4 @@
 use Rattle.points.specs.Points.{summer_call_of}
-use borrow.Author.Rules.{rules}
 use Rattle.points.proofs.summer.Goals as goal
 
 pub returns-then-is_done : goal.returns-then-is_done

@@ -1,4 +1,3 @@
-use borrow.Author.Rules.{rules}
 use Rattle.probe.proofs.probe_script.Goals as goal
 
 pub returns-in-WellFormed : goal.returns-in-WellFormed

@@ -1,6 +1,5 @@
 use Rattle.probe.specs.Probe.{write_of}
 use borrow.Author.Tests.{ne_eqb}
-use borrow.Author.Rules.{rules}
 use Rattle.probe.proofs.write.Goals as goal
 
 pub returns-in-0 : goal.returns-in-0

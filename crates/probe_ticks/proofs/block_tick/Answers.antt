@@ -1,5 +1,4 @@
 use borrow.Author.Tests.{eq-eqb, ne_eqb}
-use borrow.Author.Rules.{rules}
 use Rattle.probe_ticks.proofs.block_tick.Goals as goal
 
 pub returns-then-room-eq16 : goal.returns-then-room-eq16

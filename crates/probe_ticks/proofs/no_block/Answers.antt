@@ -1,4 +1,3 @@
-use borrow.Author.Rules.{rules}
 use Rattle.probe_ticks.proofs.no_block.Goals as goal
 
 pub returns : goal.returns

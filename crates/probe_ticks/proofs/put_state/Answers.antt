@@ -1,4 +1,3 @@
-use borrow.Author.Rules.{rules}
 use Rattle.probe_ticks.proofs.put_state.Goals as goal
 
 pub returns : goal.returns

@@ -1,4 +1,3 @@
-use borrow.Author.Rules.{rules}
 use Rattle.probe_ticks.proofs.put_tick.Goals as goal
 
 pub returns : goal.returns

@@ -1,5 +1,4 @@
 use Rattle.probe_ticks.proofs.Told.{state_ticked}
-use borrow.Author.Rules.{rules}
 use Rattle.probe_ticks.proofs.state_tick.Goals as goal
 
 pub returns : goal.returns

@@ -1,5 +1,4 @@
 use Rattle.probe_ticks.specs.Ticks.{tick_left_of}
-use borrow.Author.Rules.{rules}
 use Rattle.probe_ticks.proofs.tick_left.Goals as goal
 
 pub returns-then-is_done : goal.returns-then-is_done

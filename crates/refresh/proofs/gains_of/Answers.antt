@@ -1,4 +1,3 @@
-use borrow.Author.Rules.{rules}
 use Rattle.refresh.proofs.gains_of.Goals as goal
 
 pub returns : goal.returns

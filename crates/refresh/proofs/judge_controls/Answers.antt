@@ -1,6 +1,5 @@
 use mathlib.Core.Path.{◌∙◌}
 use Rattle.refresh.proofs.Parts.{judged_by_registers}
-use borrow.Author.Rules.{rules}
 use Rattle.refresh.proofs.judge_controls.Goals as goal
 
 pub returns : goal.returns

@@ -1,6 +1,5 @@
 use mathlib.Core.Path.{sym}
 use Rattle.refresh.proofs.Words.{all_usable_lem}
-use borrow.Author.Rules.{rules}
 use Rattle.refresh.proofs.judge_filter.Goals as goal
 
 pub returns-then-usable : goal.returns-then-usable

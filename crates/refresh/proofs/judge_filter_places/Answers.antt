@@ -1,5 +1,4 @@
 use Rattle.controls.specs.Judging.{judge_filter_of}
-use borrow.Author.Rules.{rules}
 use Rattle.refresh.proofs.judge_filter_places.Goals as goal
 
 pub returns : goal.returns

@@ -1,7 +1,6 @@
 use native.Mathlib.Omega.{arith}
 use Rattle.control.specs.Registers.{of_registers}
 use Rattle.refresh.proofs.Parts.{gain_answer, judged_by_parts}
-use borrow.Author.Rules.{rules}
 use Rattle.refresh.proofs.judge_registers.Goals as goal
 
 pub returns : goal.returns

@@ -6,7 +6,6 @@ use Rattle.bundle.specs.Reading.{read_of}
 use Rattle.bundle.proofs.Reading.{still_refused, read_through}
 use Rattle.floats.specs.Arithmetic.{◌⊗◌}
 use Rattle.response.specs.Gain.{symmetric_gain_of, mode_index_of}
-use borrow.Author.Rules.{rules}
 use Rattle.refresh.proofs.read_directional.Goals as goal
 
 pub returns-in-Refused : goal.returns-in-Refused

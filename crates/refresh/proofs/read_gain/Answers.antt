@@ -9,7 +9,6 @@ use Rattle.bundle.specs.Opening.{entry_at}
 use Rattle.controls.specs.Controls.{directional_of, refresh_mode_output_gain_of}
 use Rattle.controls.specs.Judging.{judge_mode_of}
 use Rattle.refresh.proofs.Laws.{loading_unread}
-use borrow.Author.Rules.{rules}
 use Rattle.refresh.proofs.read_gain.Goals as goal
 
 pub returns-in-Refused : goal.returns-in-Refused

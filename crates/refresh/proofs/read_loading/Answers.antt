@@ -1,7 +1,6 @@
 use Rattle.bundle.specs.Opening.{judge_places_of}
 use Rattle.bundle.specs.Reading.{read_of}
 use borrow.Author.Tests.{ne_eqb}
-use borrow.Author.Rules.{rules}
 use Rattle.refresh.proofs.read_loading.Goals as goal
 
 pub returns-then-m-eq4 : goal.returns-then-m-eq4

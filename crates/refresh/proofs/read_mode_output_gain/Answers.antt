@@ -8,7 +8,6 @@ use Rattle.controls.specs.Controls.{refresh_register_output_state_of}
 use Rattle.controls.specs.Judging.{finite_output_of}
 use Rattle.finite.proofs.Finite.{output_finite}
 use Rattle.refresh.specs.Refresh.{judge_gain_of}
-use borrow.Author.Rules.{rules}
 use Rattle.refresh.proofs.read_mode_output_gain.Goals as goal
 
 pub returns-then-is_finite : goal.returns-then-is_finite

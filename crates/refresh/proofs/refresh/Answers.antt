@@ -1,6 +1,5 @@
 use native.Mathlib.Omega.{arith}
 use Rattle.refresh.proofs.Parts.{refreshed, refused}
-use borrow.Author.Rules.{rules}
 use Rattle.refresh.proofs.refresh.Goals as goal
 
 pub returns-then-is_done : goal.returns-then-is_done

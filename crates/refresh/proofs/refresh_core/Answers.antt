@@ -1,7 +1,6 @@
 use Rattle.controls.specs.Controls.{refresh_filter_controls_of}
 use Rattle.refresh.specs.Refresh.{refresh_core_of}
 use Rattle.refresh.proofs.Words.{gains_read}
-use borrow.Author.Rules.{rules}
 use Rattle.refresh.proofs.refresh_core.Goals as goal
 
 pub returns : goal.returns

@@ -1,6 +1,5 @@
 use Rattle.controls.specs.Controls.{refresh_filter_controls_of}
 use Rattle.refresh.specs.Refresh.{refresh_core_of}
-use borrow.Author.Rules.{rules}
 use Rattle.refresh.proofs.refresh_filter_controls.Goals as goal
 
 pub returns : goal.returns

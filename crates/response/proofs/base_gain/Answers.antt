@@ -1,6 +1,5 @@
 use borrow.Author.Tests.{ne_eqb}
 use Rattle.response.specs.Gain.{base_gain_of}
-use borrow.Author.Rules.{rules}
 use Rattle.response.proofs.base_gain.Goals as goal
 
 pub returns-in-1 : goal.returns-in-1

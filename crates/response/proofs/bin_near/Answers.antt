@@ -1,6 +1,5 @@
 use native.Mathlib.Omega.{arith}
 use Rattle.response.proofs.Laws.{guess_told}
-use borrow.Author.Rules.{rules}
 use Rattle.response.proofs.bin_near.Goals as goal
 
 pub returns-then-of_usize-position : goal.returns-then-of_usize-position

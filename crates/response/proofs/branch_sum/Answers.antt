@@ -1,5 +1,4 @@
 use Rattle.response.specs.Levels.{branch_sum_of}
-use borrow.Author.Rules.{rules}
 use Rattle.response.proofs.branch_sum.Goals as goal
 
 pub returns : goal.returns

@@ -1,4 +1,3 @@
-use borrow.Author.Rules.{rules}
 use Rattle.response.proofs.cutoff_position.Goals as goal
 
 pub returns : goal.returns

@@ -2,7 +2,6 @@ use mathlib.Core.Path.{sym}
 use borrow.Author.Tests.{ne_eqb}
 use Rattle.response.specs.Gain.{filter_mode_output_gain_of}
 use Rattle.response.proofs.Factors.{no_factors}
-use borrow.Author.Rules.{rules}
 use Rattle.response.proofs.filter_mode_output_gain.Goals as goal
 
 pub returns-in-1 : goal.returns-in-1

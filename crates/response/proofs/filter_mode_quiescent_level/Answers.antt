@@ -1,5 +1,4 @@
 use Rattle.response.specs.Levels.{filter_mode_quiescent_level_of}
-use borrow.Author.Rules.{rules}
 use Rattle.response.proofs.filter_mode_quiescent_level.Goals as goal
 
 pub returns : goal.returns

@@ -1,5 +1,4 @@
 use Rattle.response.specs.Levels.{filter_output_common_mode_of}
-use borrow.Author.Rules.{rules}
 use Rattle.response.proofs.filter_output_common_mode.Goals as goal
 
 pub returns : goal.returns

@@ -1,6 +1,5 @@
 use borrow.Author.Tests.{eq-eqb, ne_eqb}
 use Rattle.response.specs.Gain.{highpass_resonance_trim_of}
-use borrow.Author.Rules.{rules}
 use Rattle.response.proofs.highpass_resonance_trim.Goals as goal
 
 pub returns-then-m-eq4 : goal.returns-then-m-eq4

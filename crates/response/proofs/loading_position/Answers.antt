@@ -1,5 +1,4 @@
 use Rattle.response.specs.Position.{loading_position_of}
-use borrow.Author.Rules.{rules}
 use Rattle.response.proofs.loading_position.Goals as goal
 
 pub returns : goal.returns

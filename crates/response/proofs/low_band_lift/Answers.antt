@@ -1,6 +1,5 @@
 use borrow.Author.Tests.{eq-eqb, ne_eqb}
 use Rattle.response.specs.Gain.{low_band_lift_of}
-use borrow.Author.Rules.{rules}
 use Rattle.response.proofs.low_band_lift.Goals as goal
 
 pub returns-then-m-eq3 : goal.returns-then-m-eq3

@@ -1,5 +1,4 @@
 use Rattle.response.specs.Levels.{normalise_voltage_of}
-use borrow.Author.Rules.{rules}
 use Rattle.response.proofs.normalise_voltage.Goals as goal
 
 pub returns : goal.returns

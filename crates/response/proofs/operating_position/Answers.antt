@@ -1,5 +1,4 @@
 use Rattle.response.specs.Position.{operating_position_of}
-use borrow.Author.Rules.{rules}
 use Rattle.response.proofs.operating_position.Goals as goal
 
 pub returns : goal.returns

@@ -1,6 +1,5 @@
 use native.Mathlib.Omega.{arith}
 use Rattle.response.proofs.Laws.{no_nans, near_index, near_told}
-use borrow.Author.Rules.{rules}
 use Rattle.response.proofs.operating_position_near.Goals as goal
 
 pub plain_activity-sum-requires : goal.plain_activity-sum-requires

@@ -1,5 +1,4 @@
 use Rattle.response.specs.Position.{activity_of}
-use borrow.Author.Rules.{rules}
 use Rattle.response.proofs.plain_activity.Goals as goal
 
 pub returns : goal.returns

@@ -1,5 +1,4 @@
 use Rattle.response.specs.Gain.{filter_mode_output_gain_of}
-use borrow.Author.Rules.{rules}
 use Rattle.response.proofs.product_of.Goals as goal
 
 pub returns : goal.returns

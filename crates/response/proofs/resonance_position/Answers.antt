@@ -1,4 +1,3 @@
-use borrow.Author.Rules.{rules}
 use Rattle.response.proofs.resonance_position.Goals as goal
 
 pub returns : goal.returns

@@ -1,5 +1,4 @@
 use Rattle.response.specs.Gain.{single_mode_loading_of}
-use borrow.Author.Rules.{rules}
 use Rattle.response.proofs.single_mode_loading.Goals as goal
 
 pub returns-then-is_single_mode : goal.returns-then-is_single_mode

@@ -1,5 +1,4 @@
 use Rattle.response.specs.Gain.{symmetric_gain_of}
-use borrow.Author.Rules.{rules}
 use Rattle.response.proofs.symmetric_gain.Goals as goal
 
 pub returns : goal.returns

@@ -1,5 +1,4 @@
 use Rattle.response.specs.Levels.{volume_dac_conductance_code_of}
-use borrow.Author.Rules.{rules}
 use Rattle.response.proofs.volume_dac_conductance_code.Goals as goal
 
 pub returns : goal.returns

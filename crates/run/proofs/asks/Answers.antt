@@ -1,4 +1,3 @@
-use borrow.Author.Rules.{rules}
 use Rattle.run.proofs.asks.Goals as goal
 
 pub returns-in-Sample : goal.returns-in-Sample

@@ -1,7 +1,6 @@
 use native.Mathlib.Omega.{arith}
 use mathlib.Core.Path.{sym, ◌∙◌}
 use Rattle.refresh.proofs.Alike.{Fit, judged_alike}
-use borrow.Author.Rules.{rules}
 use Rattle.run.proofs.judge_next.Goals as goal
 
 pub returns-then-before-next : goal.returns-then-before-next

@@ -1,5 +1,4 @@
 use mathlib.Core.Path.{◌∙◌}
-use borrow.Author.Rules.{rules}
 use Rattle.run.proofs.Whole.{script_formed, script_refused}
 use Rattle.run.proofs.judge_script.Goals as goal
 

@@ -1,4 +1,3 @@
-use borrow.Author.Rules.{rules}
 use Rattle.run.proofs.next_registers.Goals as goal
 
 pub returns-in-CutoffLow : goal.returns-in-CutoffLow

@@ -1,6 +1,5 @@
 use Rattle.refresh.specs.Refresh.{refresh_core_of}
 use Rattle.run.specs.Parts.{parts_of}
-use borrow.Author.Rules.{rules}
 use Rattle.run.proofs.parts_of.Goals as goal
 
 pub returns : goal.returns

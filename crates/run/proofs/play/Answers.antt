@@ -1,11 +1,5 @@
-use Prim.Native.Nat.{◌-◌}
 use native.Mathlib.Omega.{arith}
-use mathlib.Core.Path.{ap, ◌∙◌}
-use lib.ListN.{length}
-use borrow.Author.Rules.{rules}
-use Rattle.wire.proofs.Laws.{length-put_at}
-use Rattle.filter.specs.Lent.{lent_all}
-use Rattle.run.proofs.Loop.{Turn, sofar_start, at_end, row_goes, row_stops, moves_go, moves_stop, turn_moves, moves_gain, rest_told, rest_here}
+use Rattle.run.proofs.Loop.{sofar_start, at_end, row_goes, row_stops, moves_go, moves_stop, turn_moves, moves_gain, rest_told, rest_here}
 use Rattle.run.proofs.play.Goals as goal
 
 pub loop-i-init : goal.loop-i-init

@@ -1,8 +1,6 @@
-use Prim.Native.Nat.{◌-◌}
 use native.Mathlib.Omega.{arith}
 use mathlib.Core.Path.{sym, ◌∙◌}
-use borrow.Author.Rules.{rules}
-use Rattle.run.proofs.Moves.{Sofar, sofar_start, known, at_end, unreadable, sampled, refused, overflows, charge_none, charge_goes, reset_none, reset_goes}
+use Rattle.run.proofs.Moves.{sofar_start, known, at_end, unreadable, sampled, refused, overflows, charge_none, charge_goes, reset_none, reset_goes}
 use Rattle.run.proofs.play_changes.Goals as goal
 use Rattle.run.proofs.play_changes.Goals.{then-charges+else-not-finite_charges, else-charges, then-resets, else-resets}
 

@@ -4,7 +4,6 @@ use Rattle.filter.specs.Lent.{lent_all}
 use Rattle.run.specs.Rows.{play_end}
 use Rattle.run.specs.Parts.{play_put}
 use Rattle.run.proofs.Whole.{start_stops, start_plays, start_ahead, start_room, start_from}
-use borrow.Author.Rules.{rules}
 use Rattle.run.proofs.play_from.Goals as goal
 
 pub play-requires : goal.play-requires

@@ -1,5 +1,4 @@
 use mathlib.Core.Path.{sym, ◌∙◌}
-use borrow.Author.Rules.{rules}
 use Rattle.run.proofs.Rows.{sofar_start, none_next}
 use Rattle.run.proofs.play_row.Goals as goal
 

@@ -1,10 +1,7 @@
-use Prim.Native.Nat.{◌-◌}
 use native.Mathlib.Omega.{arith}
 use mathlib.Core.Path.{sym, ◌∙◌}
-use borrow.Author.Rules.{rules}
 use Rattle.sample.proofs.Finite.{outputs_finite_lem}
-use Rattle.run.specs.Parts.{cache_of_parts}
-use Rattle.run.proofs.Rows.{parts_sample, Sofar, sofar_start, unreadable, other, refused, turned, at_end}
+use Rattle.run.proofs.Rows.{parts_sample, sofar_start, unreadable, other, refused, turned, at_end}
 use Rattle.run.proofs.play_samples.Goals as goal
 
 pub parts_of-parts-requires : goal.parts_of-parts-requires

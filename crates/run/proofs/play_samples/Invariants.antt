@@ -1,10 +1,6 @@
 use Prim.Native.Nat.{◌-◌}
-use native.Mathlib.Omega.{arith}
-use mathlib.Core.Path.{sym, ◌∙◌}
-use borrow.Author.Rules.{rules}
-use Rattle.sample.proofs.Finite.{outputs_finite_lem}
 use Rattle.run.specs.Parts.{cache_of_parts}
-use Rattle.run.proofs.Rows.{parts_sample, Sofar, sofar_start, unreadable, other, refused, turned, at_end}
+use Rattle.run.proofs.Rows.{Sofar}
 use Rattle.run.proofs.play_samples.Given as goal
 
 abbrev pub invariant-loop-i : goal.invariant-loop-i

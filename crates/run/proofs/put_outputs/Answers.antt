@@ -1,5 +1,4 @@
 use Rattle.run.proofs.Bytes.{no_nans}
-use borrow.Author.Rules.{rules}
 use Rattle.run.proofs.put_outputs.Goals as goal
 
 pub float_to_bits-o : goal.float_to_bits-o

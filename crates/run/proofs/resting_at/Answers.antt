@@ -1,4 +1,3 @@
-use borrow.Author.Rules.{rules}
 use Rattle.run.proofs.Loop.{rest_stays}
 use Rattle.run.proofs.resting_at.Goals as goal
 

@@ -4,7 +4,6 @@ use Rattle.answers.specs.declared.Answer.TheVariants.{Argument}
 use Rattle.answers.specs.Answers.{first_of}
 use Rattle.answers.proofs.Laws.{done_is}
 use Rattle.run.proofs.Whole.{valid_judged, valid_fine, valid_done, run_refused, invalid_refused}
-use borrow.Author.Rules.{rules}
 use Rattle.run.proofs.run.Goals as goal
 
 pub returns-in_default : goal.returns-in_default

@@ -1,6 +1,5 @@
 use mathlib.Core.Path.{refl, sym, ◌∙◌}
 use mathlib.Core.Bool.{true≢false}
-use borrow.Author.Rules.{rules}
 use Rattle.script.proofs.Laws.{all_stop, events_next, events_end}
 use Rattle.run.proofs.sample_next.Goals as goal
 

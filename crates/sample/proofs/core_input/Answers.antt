@@ -1,5 +1,4 @@
 use Rattle.sample.specs.Parts.{core_input_of}
-use borrow.Author.Rules.{rules}
 use Rattle.sample.proofs.core_input.Goals as goal
 
 pub returns-then-is_idle : goal.returns-then-is_idle

@@ -1,5 +1,4 @@
 use Rattle.sample.proofs.Parts.{parts_are_sample}
-use borrow.Author.Rules.{rules}
 use Rattle.sample.proofs.filter_sample.Goals as goal
 
 pub returns : goal.returns

@@ -1,5 +1,4 @@
 use Rattle.sample.specs.Sample.{judge_summer_of}
-use borrow.Author.Rules.{rules}
 use Rattle.sample.proofs.judge_summer.Goals as goal
 
 pub returns : goal.returns

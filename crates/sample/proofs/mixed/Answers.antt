@@ -1,5 +1,4 @@
 use Rattle.sample.specs.Sample.{mixed_of}
-use borrow.Author.Rules.{rules}
 use Rattle.sample.proofs.mixed.Goals as goal
 
 pub returns : goal.returns

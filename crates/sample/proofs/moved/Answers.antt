@@ -1,6 +1,5 @@
 use Rattle.sample.specs.Sample.{moved_of}
 use Rattle.sample.proofs.Laws.{both_bins}
-use borrow.Author.Rules.{rules}
 use Rattle.sample.proofs.moved.Goals as goal
 
 pub between_bins-requires : goal.between_bins-requires

@@ -1,6 +1,5 @@
 use Rattle.sample.specs.Parts.{stepped_of}
 use Rattle.sample.proofs.Parts.{taken_parts}
-use borrow.Author.Rules.{rules}
 use Rattle.sample.proofs.sample_from_parts.Goals as goal
 
 pub returns-in-Idle : goal.returns-in-Idle

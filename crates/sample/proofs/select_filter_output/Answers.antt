@@ -1,5 +1,4 @@
 use Rattle.sample.specs.Sample.{select_filter_output_of}
-use borrow.Author.Rules.{rules}
 use Rattle.sample.proofs.select_filter_output.Goals as goal
 
 pub returns : goal.returns

@@ -1,5 +1,4 @@
 use Rattle.sample.specs.Parts.{above_of}
-use borrow.Author.Rules.{rules}
 use Rattle.sample.proofs.summed.Goals as goal
 
 pub returns-in-Refused : goal.returns-in-Refused

@@ -1,6 +1,5 @@
 use Rattle.curves.specs.Sampling.{curve_point_of}
 use Rattle.sample.specs.Sample.{summer_transfer_of, summer_point_of}
-use borrow.Author.Rules.{rules}
 use Rattle.sample.proofs.summer_point.Goals as goal
 
 pub returns : goal.returns

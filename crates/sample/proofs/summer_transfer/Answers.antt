@@ -1,5 +1,4 @@
 use Rattle.sample.specs.Sample.{summer_point_of}
-use borrow.Author.Rules.{rules}
 use Rattle.sample.proofs.summer_transfer.Goals as goal
 
 pub returns : goal.returns

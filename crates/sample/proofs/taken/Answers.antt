@@ -1,5 +1,4 @@
 use Rattle.sample.specs.Sample.{taken_of}
-use borrow.Author.Rules.{rules}
 use Rattle.sample.proofs.taken.Goals as goal
 
 pub returns-in_default : goal.returns-in_default

@@ -4,7 +4,6 @@ use mathlib.Core.Bool.{true, false}
 use lib.Dec.{eqb}
 use lib.ListN.{length}
 use Rattle.script.proofs.Laws.{count_few, check_told}
-use borrow.Author.Rules.{rules}
 use Rattle.script.proofs.check_script.Goals as goal
 
 pub tally-requires : goal.tally-requires

@@ -3,7 +3,6 @@ use borrow.Author.Tests.{ne_eqb}
 use Rattle.wire.specs.Wire.{f32_at}
 use Rattle.script.specs.Script.{kind_of, decode_event_of}
 use Rattle.script.proofs.Laws.{event_told, event_not}
-use borrow.Author.Rules.{rules}
 use Rattle.script.proofs.decode_event.Goals as goal
 use Rattle.script.proofs.decode_event.Goals.{After-byte_at-kind}
 

@@ -1,7 +1,6 @@
 use mathlib.Core.Path.{◌∙◌}
 use native.Mathlib.Omega.{arith}
 use Rattle.script.proofs.Laws.{event_part, event_past}
-use borrow.Author.Rules.{rules}
 use Rattle.script.proofs.event_at.Goals as goal
 
 pub returns-then-place-script : goal.returns-then-place-script

@@ -1,12 +1,9 @@
 -- The loop's invariant: the whole tally is that of the slices that are left, after the samples so far.
-use Prim.Native.Nat.{◌-◌, ◌≤◌}
-use mathlib.Core.Path.{◌≡◌, sym, ◌∙◌}
+use mathlib.Core.Path.{sym, ◌∙◌}
 use native.Mathlib.Omega.{arith}
 use native.Mathlib.Nat.{sub-zero}
-use lib.ListN.{drop}
 use borrow.Author.Rules.{rules}
-use Rattle.script.specs.Script.{slices_in, tally_of}
-use Rattle.script.proofs.Laws.{sample_le, slices_from, tally_from, tally_start, tally_more, tally_stop, tally_end}
+use Rattle.script.proofs.Laws.{sample_le, tally_start, tally_more, tally_stop, tally_end}
 use Rattle.script.proofs.tally.Goals as goal
 
 pub loop-i-init : goal.loop-i-init

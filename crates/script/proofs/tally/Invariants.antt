@@ -1,12 +1,9 @@
 -- The loop's invariant: the whole tally is that of the slices that are left, after the samples so far.
 use Prim.Native.Nat.{◌-◌, ◌≤◌}
-use mathlib.Core.Path.{◌≡◌, sym, ◌∙◌}
-use native.Mathlib.Omega.{arith}
-use native.Mathlib.Nat.{sub-zero}
+use mathlib.Core.Path.{◌≡◌}
 use lib.ListN.{drop}
-use borrow.Author.Rules.{rules}
 use Rattle.script.specs.Script.{slices_in, tally_of}
-use Rattle.script.proofs.Laws.{sample_le, slices_from, tally_from, tally_start, tally_more, tally_stop, tally_end}
+use Rattle.script.proofs.Laws.{slices_from, tally_from}
 use Rattle.script.proofs.tally.Given as goal
 
 abbrev pub invariant-loop-i : goal.invariant-loop-i

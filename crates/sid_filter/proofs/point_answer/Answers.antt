@@ -1,4 +1,3 @@
-use borrow.Author.Rules.{rules}
 use Rattle.sid_filter.proofs.point_answer.Goals as goal
 
 pub returns : goal.returns

@@ -1,4 +1,3 @@
-use borrow.Author.Rules.{rules}
 use Rattle.sid_filter.proofs.run_answer.Goals as goal
 
 pub returns : goal.returns

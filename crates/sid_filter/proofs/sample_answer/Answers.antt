@@ -4,7 +4,6 @@ use Rattle.answers.specs.declared.Answer.{Answer}
 use Rattle.sid_filter.specs.Calls.{run_answer_of}
 use Rattle.sid_filter.proofs.SamplePoint.{other_length, told_one, told_five, told_other}
 use borrow.Author.Tests.{ne_eqb}
-use borrow.Author.Rules.{rules}
 use Rattle.sid_filter.proofs.sample_answer.Goals as goal
 
 pub returns-then-state-ne-BYTES : goal.returns-then-state-ne-BYTES

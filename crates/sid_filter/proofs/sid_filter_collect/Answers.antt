@@ -1,4 +1,3 @@
-use borrow.Author.Rules.{rules}
 use Rattle.sid_filter.proofs.sid_filter_collect.Goals as goal
 
 pub returns : goal.returns

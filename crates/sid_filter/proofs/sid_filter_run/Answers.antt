@@ -1,5 +1,4 @@
 use Rattle.sid_filter.proofs.Most.{events_fit, samples_fit}
-use borrow.Author.Rules.{rules}
 use Rattle.sid_filter.proofs.sid_filter_run.Goals as goal
 
 pub overflow_cast-ended : goal.overflow_cast-ended

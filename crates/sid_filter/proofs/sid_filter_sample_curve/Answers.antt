@@ -1,4 +1,3 @@
-use borrow.Author.Rules.{rules}
 use Rattle.sid_filter.proofs.sid_filter_sample_curve.Goals as goal
 
 pub returns : goal.returns

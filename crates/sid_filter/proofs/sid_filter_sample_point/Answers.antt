@@ -1,6 +1,5 @@
 use Rattle.sid_filter.proofs.SamplePoint.{done_point, refused_point}
 use borrow.Author.Tests.{ne_eqb}
-use borrow.Author.Rules.{rules}
 use Rattle.sid_filter.proofs.sid_filter_sample_point.Goals as goal
 
 pub returns-then-answer-eq0 : goal.returns-then-answer-eq0

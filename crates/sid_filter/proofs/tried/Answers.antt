@@ -1,7 +1,6 @@
 use mathlib.Core.Path.{refl}
 use lib.ListN.{replicate}
 use Rattle.wire.proofs.Laws.{put_at-whole}
-use borrow.Author.Rules.{rules}
 use Rattle.sid_filter.proofs.tried.Goals as goal
 
 pub returns : goal.returns

@@ -1,5 +1,4 @@
 use Rattle.signals.specs.Lent.{blends_of}
-use borrow.Author.Rules.{rules}
 use Rattle.signals.proofs.blends_of.Goals as goal
 
 pub returns : goal.returns

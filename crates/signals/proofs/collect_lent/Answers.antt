@@ -1,7 +1,6 @@
 use mathlib.Core.Path.{sym, ap, ◌∙◌}
 use Rattle.signals.specs.Collecting.{finite_signals_of, signal_bytes}
 use Rattle.signals.proofs.Told.{room_told, done_told, domain_told, refused_told}
-use borrow.Author.Rules.{rules}
 use Rattle.signals.proofs.collect_lent.Goals as goal
 
 pub put-requires : goal.put-requires

@@ -1,5 +1,4 @@
 use Rattle.signals.specs.Lent.{external_of}
-use borrow.Author.Rules.{rules}
 use Rattle.signals.proofs.external_of.Goals as goal
 
 pub returns : goal.returns

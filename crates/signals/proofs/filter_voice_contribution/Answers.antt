@@ -1,5 +1,4 @@
 use Rattle.signals.specs.Signals.{filter_voice_contribution_of}
-use borrow.Author.Rules.{rules}
 use Rattle.signals.proofs.filter_voice_contribution.Goals as goal
 
 pub returns-then-signal : goal.returns-then-signal

@@ -1,5 +1,4 @@
 use Rattle.signals.specs.Lent.{finite_numbers_of}
-use borrow.Author.Rules.{rules}
 use Rattle.signals.proofs.finite_numbers.Goals as goal
 
 pub returns : goal.returns

@@ -1,5 +1,4 @@
 use Rattle.signals.specs.Collecting.{judge_collect_of}
-use borrow.Author.Rules.{rules}
 use Rattle.signals.proofs.judge_collect.Goals as goal
 
 pub returns : goal.returns

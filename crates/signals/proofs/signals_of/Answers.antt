@@ -1,5 +1,4 @@
 use Rattle.signals.specs.Collecting.{signals_of}
-use borrow.Author.Rules.{rules}
 use Rattle.signals.proofs.signals_of.Goals as goal
 
 pub returns : goal.returns

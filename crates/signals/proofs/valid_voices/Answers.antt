@@ -1,5 +1,4 @@
 use Rattle.signals.specs.Lent.{valid_voices_of}
-use borrow.Author.Rules.{rules}
 use Rattle.signals.proofs.valid_voices.Goals as goal
 
 pub returns : goal.returns

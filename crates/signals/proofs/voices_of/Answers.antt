@@ -1,5 +1,4 @@
 use Rattle.signals.specs.Lent.{voices_of}
-use borrow.Author.Rules.{rules}
 use Rattle.signals.proofs.voices_of.Goals as goal
 
 pub returns : goal.returns

@@ -1,5 +1,4 @@
 use Rattle.signals.specs.Signals.{waveform_state_load_of}
-use borrow.Author.Rules.{rules}
 use Rattle.signals.proofs.waveform_state_load.Goals as goal
 
 pub returns : goal.returns

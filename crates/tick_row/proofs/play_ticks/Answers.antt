@@ -3,8 +3,7 @@ use native.Mathlib.Omega.{arith}
 use mathlib.Core.Path.{◌≡◌, refl}
 use lib.ListN.{length}
 use borrow.Author.Rules.{rules}
-use Rattle.sample.specs.Parts.{cache_of}
-use Rattle.tick_row.proofs.Rows.{count_voices, count_room, Sofar, sofar_start, row_end, row_refused, row_taken}
+use Rattle.tick_row.proofs.Rows.{count_voices, count_room, sofar_start, row_end, row_refused, row_taken}
 use Rattle.tick_row.proofs.play_ticks.Goals as goal
 
 pub loop-i-init : goal.loop-i-init

@@ -1,10 +1,6 @@
-use Prim.Native.Nat.{◌+◌, ◌-◌, ◌*◌, ◌≤◌}
-use native.Mathlib.Omega.{arith}
-use mathlib.Core.Path.{◌≡◌, refl}
-use lib.ListN.{length}
-use borrow.Author.Rules.{rules}
+use Prim.Native.Nat.{◌-◌}
 use Rattle.sample.specs.Parts.{cache_of}
-use Rattle.tick_row.proofs.Rows.{count_voices, count_room, Sofar, sofar_start, row_end, row_refused, row_taken}
+use Rattle.tick_row.proofs.Rows.{Sofar}
 use Rattle.tick_row.proofs.play_ticks.Given as goal
 
 abbrev pub invariant-loop-i : goal.invariant-loop-i

@@ -1,5 +1,4 @@
 use Rattle.wire.specs.Wire.{put_at}
-use borrow.Author.Rules.{rules}
 use Rattle.tick_row.proofs.put_tick.Goals as goal
 
 pub returns : goal.returns

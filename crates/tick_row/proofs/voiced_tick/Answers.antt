@@ -1,5 +1,4 @@
 use Rattle.tick_row.proofs.Rows.{voiced_on, voiced_off}
-use borrow.Author.Rules.{rules}
 use Rattle.tick_row.proofs.voiced_tick.Goals as goal
 
 pub returns-then-valid_voices : goal.returns-then-valid_voices

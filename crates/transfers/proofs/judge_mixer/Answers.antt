@@ -1,5 +1,4 @@
 use Rattle.transfers.specs.Transfers.{judge_mixer_of}
-use borrow.Author.Rules.{rules}
 use borrow.Author.Tests.{le-leb, lt-leb}
 use Rattle.transfers.proofs.judge_mixer.Goals as goal
 

@@ -1,5 +1,4 @@
 use Rattle.transfers.specs.Transfers.{judge_volume_of}
-use borrow.Author.Rules.{rules}
 use Rattle.transfers.proofs.judge_volume.Goals as goal
 
 pub returns : goal.returns

@@ -1,5 +1,4 @@
 use Rattle.transfers.specs.Transfers.{mixer_point_of}
-use borrow.Author.Rules.{rules}
 use borrow.Author.Tests.{le-leb, lt-leb}
 use Rattle.transfers.proofs.mixer_point.Goals as goal
 

@@ -1,5 +1,4 @@
 use Rattle.transfers.proofs.Laws.{mixer_value}
-use borrow.Author.Rules.{rules}
 use Rattle.transfers.proofs.mixer_transfer.Goals as goal
 
 pub returns : goal.returns

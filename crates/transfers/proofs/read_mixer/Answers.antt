@@ -1,6 +1,5 @@
 use Rattle.transfers.specs.Transfers.{mixer_transfer_of, judge_mixer_of, read_mixer_of}
 use Rattle.bundle.specs.Reading.{read_of}
-use borrow.Author.Rules.{rules}
 use borrow.Author.Tests.{le-leb, lt-leb}
 use Rattle.transfers.proofs.read_mixer.Goals as goal
 

@@ -1,5 +1,4 @@
 use Rattle.transfers.specs.Transfers.{volume_transfer_of, judge_volume_of, read_volume_of}
-use borrow.Author.Rules.{rules}
 use Rattle.transfers.proofs.read_volume.Goals as goal
 
 pub returns : goal.returns

@@ -1,5 +1,4 @@
 use Rattle.transfers.specs.Transfers.{volume_point_of}
-use borrow.Author.Rules.{rules}
 use Rattle.transfers.proofs.volume_point.Goals as goal
 
 pub returns : goal.returns

@@ -1,6 +1,5 @@
 use Rattle.curves.specs.Sampling.{curve_point_of}
 use Rattle.transfers.specs.Transfers.{volume_transfer_of, volume_point_of}
-use borrow.Author.Rules.{rules}
 use Rattle.transfers.proofs.volume_transfer.Goals as goal
 
 pub returns : goal.returns

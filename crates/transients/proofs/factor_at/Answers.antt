@@ -1,5 +1,4 @@
 use Rattle.transients.specs.Block.{factor_at}
-use borrow.Author.Rules.{rules}
 use Rattle.transients.proofs.factor_at.Goals as goal
 
 pub returns : goal.returns

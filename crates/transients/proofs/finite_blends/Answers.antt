@@ -1,5 +1,4 @@
 use Rattle.transients.specs.Transients.{finite_blends_of}
-use borrow.Author.Rules.{rules}
 use Rattle.transients.proofs.finite_blends.Goals as goal
 
 pub returns : goal.returns

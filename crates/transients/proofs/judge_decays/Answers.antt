@@ -1,5 +1,4 @@
 use Rattle.transients.specs.Block.{judge_decays_of}
-use borrow.Author.Rules.{rules}
 use Rattle.transients.proofs.judge_decays.Goals as goal
 
 pub returns : goal.returns

@@ -1,6 +1,5 @@
 use Rattle.signals.specs.Lent.{finite_three_at}
 use Rattle.turns.specs.Turns.{judge_levels_of}
-use borrow.Author.Rules.{rules}
 use Rattle.turns.proofs.judge_levels.Goals as goal
 
 pub returns : goal.returns

@@ -1,5 +1,4 @@
 use Rattle.turns.specs.Turns.{judge_voices_of}
-use borrow.Author.Rules.{rules}
 use Rattle.turns.proofs.judge_voices.Goals as goal
 
 pub returns : goal.returns

@@ -1,4 +1,3 @@
-use borrow.Author.Rules.{rules}
 use Rattle.turns.proofs.settings_of.Goals as goal
 
 pub returns : goal.returns

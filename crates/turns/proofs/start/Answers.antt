@@ -1,5 +1,4 @@
 use Rattle.turns.proofs.Told.{turn_started}
-use borrow.Author.Rules.{rules}
 use Rattle.turns.proofs.start.Goals as goal
 
 pub returns : goal.returns

@@ -1,5 +1,4 @@
 use Rattle.turns.specs.Turns.{take_tick_of}
-use borrow.Author.Rules.{rules}
 use Rattle.turns.proofs.take_tick.Goals as goal
 
 pub returns : goal.returns

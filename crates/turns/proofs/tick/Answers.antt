@@ -1,6 +1,5 @@
 use Rattle.turns.proofs.Told.{tick_goes, tick_refused}
 use Rattle.turns.specs.Turns.{core_tick_of}
-use borrow.Author.Rules.{rules}
 use Rattle.turns.proofs.tick.Goals as goal
 
 pub returns-then-is_done : goal.returns-then-is_done

@@ -1,5 +1,4 @@
 use mathlib.Core.Path.{refl}
-use borrow.Author.Rules.{rules}
 use Rattle.turns.proofs.ticked.Goals as goal
 
 pub returns-in-Clocked : goal.returns-in-Clocked

@@ -1,5 +1,4 @@
 use Rattle.voice.specs.Levels.{mixer_voice_signal_of}
-use borrow.Author.Rules.{rules}
 use Rattle.voice.proofs.mixer_voice_signal.Goals as goal
 
 pub returns : goal.returns

@@ -1,5 +1,4 @@
 use Rattle.voice.specs.Levels.{source_resting_of}
-use borrow.Author.Rules.{rules}
 use Rattle.voice.proofs.source_resting.Goals as goal
 
 pub returns : goal.returns

@@ -1,5 +1,4 @@
 use Rattle.voice.specs.Voice.{voice_at}
-use borrow.Author.Rules.{rules}
 use Rattle.voice.proofs.voice_at.Goals as goal
 
 pub returns : goal.returns

@@ -1,5 +1,4 @@
 -- The invariant: the flag says whether each of the j entries so far is usable.
-use Prim.Native.Nat.{◌-◌, ◌≤◌}
 use mathlib.Core.Path.{◌≡◌, refl}
 use native.Mathlib.Omega.{arith}
 use native.Mathlib.Numerals.{add-one}

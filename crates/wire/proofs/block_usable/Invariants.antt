@@ -1,12 +1,7 @@
 -- The invariant: the flag says whether each of the j entries so far is usable.
 use Prim.Native.Nat.{◌-◌, ◌≤◌}
-use mathlib.Core.Path.{◌≡◌, refl}
-use native.Mathlib.Omega.{arith}
-use native.Mathlib.Numerals.{add-one}
-use borrow.Author.Tests.{le-leb, lt-leb}
-use borrow.Author.Rules.{rules}
+use mathlib.Core.Path.{◌≡◌}
 use Rattle.wire.specs.First.{every, usable_entry}
-use Rattle.wire.specs.Inner.{block_usable_of}
 use Rattle.wire.proofs.block_usable.Given as goal
 
 abbrev pub invariant-loop-j : goal.invariant-loop-j

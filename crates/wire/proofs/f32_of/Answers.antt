@@ -1,7 +1,6 @@
 use mathlib.Core.Path.{sym}
 use native.Mathlib.Omega.{arith}
 use lib.Ieee.{div, of_bits}
-use borrow.Author.Rules.{rules}
 use Rattle.wire.proofs.Floats.{no_nan, nan_above}
 use Rattle.wire.proofs.f32_of.Goals as goal
 

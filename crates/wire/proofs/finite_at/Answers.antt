@@ -1,5 +1,4 @@
 use Rattle.wire.proofs.Floats.{finite_bits_is}
-use borrow.Author.Rules.{rules}
 use Rattle.wire.proofs.finite_at.Goals as goal
 
 pub returns : goal.returns

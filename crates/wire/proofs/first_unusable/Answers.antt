@@ -3,7 +3,6 @@ use Prim.Native.Nat.{◌-◌, ◌/◌}
 use mathlib.Core.Path.{sym, ◌∙◌}
 use native.Mathlib.Omega.{arith}
 use lib.ListN.{length}
-use borrow.Author.Rules.{rules}
 use Rattle.wire.proofs.First.{found_inside, none_inside}
 use Rattle.wire.proofs.first_unusable.Goals as goal
 

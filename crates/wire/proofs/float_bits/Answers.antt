@@ -1,5 +1,4 @@
 use lib.Ieee.{to_bits}
-use borrow.Author.Rules.{rules}
 use Rattle.floats.proofs.Laws.{equal_no_nan, unequal_nan}
 use Rattle.wire.proofs.float_bits.Goals as goal
 

@@ -1,5 +1,4 @@
 use mathlib.Core.Path.{◌∙◌}
-use borrow.Author.Rules.{rules}
 use Rattle.wire.proofs.Sixteens.{and_four}
 use Rattle.wire.proofs.four_usable.Goals as goal
 

@@ -2,7 +2,6 @@ use mathlib.Core.Path.{ap, ◌∙◌}
 use mir.Syntax.{w16}
 use mir.Val.{to_z}
 use mir.ValLaws.{to_z-of_z}
-use borrow.Author.Rules.{rules}
 use Rattle.wire.specs.Wire.{i16_at}
 use Rattle.wire.proofs.i16_at.Goals as goal
 

@@ -1,5 +1,4 @@
 use mathlib.Core.Path.{◌∙◌}
-use borrow.Author.Rules.{rules}
 use Rattle.wire.proofs.Laws.{two_bytes}
 use Rattle.wire.proofs.pair.Goals as goal
 

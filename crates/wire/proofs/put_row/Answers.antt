@@ -3,7 +3,6 @@ use Prim.Native.Nat.{◌+◌}
 use mathlib.Core.Path.{refl, sym}
 use mathlib.Core.List.{◌++◌}
 use native.Mathlib.Omega.{arith}
-use borrow.Author.Rules.{rules}
 use Rattle.wire.specs.Wire.{bytes_of, row_bytes}
 use Rattle.wire.proofs.Laws.{put_at_out, put_at-join}
 use Rattle.wire.proofs.put_row.Goals as goal

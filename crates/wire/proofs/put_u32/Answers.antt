@@ -1,6 +1,5 @@
 use mathlib.Core.Path.{sym}
 use native.Mathlib.Omega.{arith}
-use borrow.Author.Rules.{rules}
 use Rattle.wire.specs.Wire.{bytes_of}
 use Rattle.wire.proofs.Laws.{length-bytes_of, put_at_out}
 use Rattle.wire.proofs.put_u32.Goals as goal

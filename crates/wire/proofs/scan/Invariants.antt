@@ -1,13 +1,8 @@
 -- The invariant: each entry passed is usable. The loop ends at the one index of which `first-is` speaks.
 use Prim.Native.Nat.{ℕ, ◌-◌, ◌≤◌, ◌<◌}
-use mathlib.Core.Path.{◌≡◌, ap, sym, ◌∙◌}
+use mathlib.Core.Path.{◌≡◌}
 use mathlib.Core.Bool.{true}
-use native.Mathlib.Omega.{arith}
-use borrow.Author.Count.{below_none, below_more}
-use borrow.Author.Rules.{rules}
-use Rattle.wire.specs.Wire.{usable_of}
 use Rattle.wire.specs.First.{usable_entry}
-use Rattle.wire.proofs.First.{first_is, block_fits, block_more}
 use Rattle.wire.proofs.scan.Given as goal
 
 abbrev pub invariant-loop-i : goal.invariant-loop-i

@@ -1,4 +1,3 @@
-use borrow.Author.Rules.{rules}
 use Rattle.wire.proofs.Signed.{upper_fits, upper_is}
 use Rattle.wire.proofs.signed16.Goals as goal
 

@@ -1,12 +1,8 @@
 -- The invariant: the first i words are those at their places.
 use Prim.Native.Nat.{ℕ, ◌+◌, ◌-◌, ◌*◌, ◌≤◌, ◌<◌}
-use mathlib.Core.Path.{◌≡◌, refl, ◌∙◌}
-use native.Mathlib.Omega.{arith}
-use lib.ListN.{length, get_or, length-set}
-use borrow.Author.Count.{below_none}
-use borrow.Author.Rules.{rules}
+use mathlib.Core.Path.{◌≡◌}
+use lib.ListN.{length, get_or}
 use Rattle.wire.specs.Wire.{u32_at}
-use Rattle.wire.proofs.Sixteens.{word_stored, by_places}
 use Rattle.wire.proofs.sixteen_at.Given as goal
 
 abbrev pub invariant-loop-i : goal.invariant-loop-i

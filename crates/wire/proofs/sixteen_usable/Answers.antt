@@ -1,4 +1,3 @@
-use borrow.Author.Rules.{rules}
 use Rattle.wire.proofs.Sixteens.{by_fours, by_first}
 use Rattle.wire.proofs.sixteen_usable.Goals as goal
 

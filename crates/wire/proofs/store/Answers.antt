@@ -2,7 +2,6 @@
 use native.Mathlib.Omega.{arith}
 use native.Mathlib.Numerals.{add-one, add-two, add-three}
 use lib.ListN.{length-set}
-use borrow.Author.Rules.{rules}
 use Rattle.wire.specs.Wire.{bytes_of}
 use Rattle.wire.proofs.Laws.{sets-put_at}
 use Rattle.wire.proofs.store.Goals as goal

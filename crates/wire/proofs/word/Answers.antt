@@ -1,5 +1,4 @@
 use mathlib.Core.Path.{◌∙◌}
-use borrow.Author.Rules.{rules}
 use Rattle.wire.proofs.Laws.{four_bytes}
 use Rattle.wire.proofs.word.Goals as goal
 

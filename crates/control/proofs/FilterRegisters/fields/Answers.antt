@@ -1,7 +1,6 @@
 use mir.Syntax.{w16}
 use mir.ValLaws.{to_z-of_z}
 use Rattle.control.specs.Block.{register_fields_of}
-use borrow.Author.Rules.{rules}
 use Rattle.control.proofs.FilterRegisters.fields.Goals as goal
 
 pub returns : goal.returns

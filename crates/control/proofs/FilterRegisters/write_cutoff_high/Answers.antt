@@ -1,7 +1,6 @@
 use mir.Syntax.{w16, w32}
 use mir.ValLaws.{to_z-of_z}
 use Rattle.control.proofs.Laws.{next_code}
-use borrow.Author.Rules.{rules}
 use Rattle.control.proofs.FilterRegisters.write_cutoff_high.Goals as goal
 
 pub returns : goal.returns

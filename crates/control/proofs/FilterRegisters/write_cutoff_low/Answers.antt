@@ -1,5 +1,4 @@
 use Rattle.control.proofs.Laws.{lowest}
-use borrow.Author.Rules.{rules}
 use Rattle.control.proofs.FilterRegisters.write_cutoff_low.Goals as goal
 
 pub returns : goal.returns

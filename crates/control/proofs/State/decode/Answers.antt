@@ -1,6 +1,5 @@
 use mathlib.Core.Bool.{true, false}
 use Rattle.control.proofs.Block.{decode_told, decode_not}
-use borrow.Author.Rules.{rules}
 use Rattle.control.proofs.State.decode.Goals as goal
 
 pub returns-then-block-ne-BYTES : goal.returns-then-block-ne-BYTES

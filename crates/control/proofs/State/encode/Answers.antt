@@ -1,5 +1,4 @@
 use Rattle.control.proofs.Block.{encode_whole, encode_not}
-use borrow.Author.Rules.{rules}
 use Rattle.control.proofs.State.encode.Goals as goal
 
 pub returns-then-dst-eq-BYTES : goal.returns-then-dst-eq-BYTES

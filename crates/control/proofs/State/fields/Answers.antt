@@ -1,5 +1,4 @@
 use Rattle.control.specs.Block.{fields_of}
-use borrow.Author.Rules.{rules}
 use Rattle.control.proofs.State.fields.Goals as goal
 
 pub returns : goal.returns

@@ -1,5 +1,4 @@
 use Rattle.control.specs.Block.{valid_of}
-use borrow.Author.Rules.{rules}
 use Rattle.control.proofs.State.is_valid.Goals as goal
 
 pub returns : goal.returns

@@ -4,7 +4,6 @@ use mathlib.Core.Path.{ap, ◌∙◌}
 use mir.Val.{of_z}
 use Rattle.wire.specs.Wire.{bytes_of}
 use Rattle.control.proofs.Block.{narrow_told}
-use borrow.Author.Rules.{rules}
 use Rattle.control.proofs.State.narrow.Goals as goal
 
 pub returns : goal.returns

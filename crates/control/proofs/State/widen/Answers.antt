@@ -1,5 +1,4 @@
 use Rattle.control.proofs.Widening.{wide_told, widen_done, widen_not}
-use borrow.Author.Rules.{rules}
 use Rattle.control.proofs.State.widen.Goals as goal
 
 pub returns-then-block-tidy : goal.returns-then-block-tidy

@@ -1,4 +1,3 @@
-use borrow.Author.Rules.{rules}
 use Rattle.control.proofs.State.write_cutoff_low.Goals as goal
 
 pub returns : goal.returns

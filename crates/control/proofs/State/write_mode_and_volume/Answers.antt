@@ -1,5 +1,4 @@
 use Rattle.control.proofs.Laws.{lowest}
-use borrow.Author.Rules.{rules}
 use Rattle.control.proofs.State.write_mode_and_volume.Goals as goal
 
 pub returns : goal.returns

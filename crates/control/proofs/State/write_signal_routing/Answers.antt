@@ -1,4 +1,3 @@
-use borrow.Author.Rules.{rules}
 use Rattle.control.proofs.State.write_signal_routing.Goals as goal
 
 pub returns : goal.returns

@@ -2,7 +2,6 @@ use mathlib.Core.Path.{◌∙◌}
 use Rattle.filter.specs.Lent.{lent_all}
 use Rattle.filter.specs.Core.{feed_event_of, feed_of}
 use Rattle.filter.proofs.Laws.{feed_judged, fed_goes, fed_refused, decays_unread}
-use borrow.Author.Rules.{rules}
 use Rattle.filter.proofs.Core.feed.Goals as goal
 
 pub returns-then-is_done : goal.returns-then-is_done

@@ -1,4 +1,3 @@
-use borrow.Author.Rules.{rules}
 use Rattle.filter.proofs.Core.feed_event.Goals as goal
 
 pub returns-in-CutoffLow : goal.returns-in-CutoffLow

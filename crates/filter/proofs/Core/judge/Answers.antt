@@ -1,5 +1,4 @@
 use Rattle.filter.specs.Core.{judge_core_of}
-use borrow.Author.Rules.{rules}
 use Rattle.filter.proofs.Core.judge.Goals as goal
 
 pub returns : goal.returns

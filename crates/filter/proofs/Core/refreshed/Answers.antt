@@ -1,5 +1,4 @@
 use Rattle.filter.proofs.Laws.{settle_refreshed}
-use borrow.Author.Rules.{rules}
 use Rattle.filter.proofs.Core.refreshed.Goals as goal
 
 pub returns : goal.returns

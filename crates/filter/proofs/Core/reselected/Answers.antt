@@ -1,5 +1,4 @@
 use Rattle.filter.proofs.Laws.{settle_reselected}
-use borrow.Author.Rules.{rules}
 use Rattle.filter.proofs.Core.reselected.Goals as goal
 
 pub returns : goal.returns

@@ -1,7 +1,6 @@
 use mathlib.Core.List.{[]}
 use Rattle.filter.specs.Core.{core_sample_of}
 use Rattle.filter.proofs.Laws.{take_judged, fed_goes, fed_refused}
-use borrow.Author.Rules.{rules}
 use Rattle.filter.proofs.Core.sample.Goals as goal
 
 pub returns-then-is_done : goal.returns-then-is_done

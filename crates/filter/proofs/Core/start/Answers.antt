@@ -1,5 +1,4 @@
 use Rattle.filter.specs.Plain.{plain_start}
-use borrow.Author.Rules.{rules}
 use Rattle.filter.proofs.Core.start.Goals as goal
 
 pub returns : goal.returns

@@ -1,5 +1,4 @@
 use Rattle.filter.specs.Core.{take_of}
-use borrow.Author.Rules.{rules}
 use Rattle.filter.proofs.Core.take.Goals as goal
 
 pub returns : goal.returns

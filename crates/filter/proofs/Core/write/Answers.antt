@@ -1,5 +1,4 @@
 use Rattle.filter.specs.Core.{core_write_of}
-use borrow.Author.Rules.{rules}
 use Rattle.filter.proofs.Core.write.Goals as goal
 
 pub returns : goal.returns

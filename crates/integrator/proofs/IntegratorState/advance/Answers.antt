@@ -1,5 +1,4 @@
 use Rattle.integrator.specs.Integrator.{advance_of}
-use borrow.Author.Rules.{rules}
 use Rattle.integrator.proofs.IntegratorState.advance.Goals as goal
 
 pub returns : goal.returns

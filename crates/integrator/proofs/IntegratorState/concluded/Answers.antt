@@ -1,4 +1,3 @@
-use borrow.Author.Rules.{rules}
 use Rattle.integrator.proofs.IntegratorState.concluded.Goals as goal
 
 pub returns : goal.returns

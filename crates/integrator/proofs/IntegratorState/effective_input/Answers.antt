@@ -1,4 +1,3 @@
-use borrow.Author.Rules.{rules}
 use Rattle.integrator.proofs.IntegratorState.effective_input.Goals as goal
 
 pub returns : goal.returns

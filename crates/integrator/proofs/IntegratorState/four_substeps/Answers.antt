@@ -1,6 +1,5 @@
 use mathlib.Core.Path.{sym, ◌∙◌}
 use Rattle.integrator.proofs.Laws.{four_told, four_none}
-use borrow.Author.Rules.{rules}
 use Rattle.integrator.proofs.IntegratorState.four_substeps.Goals as goal
 
 pub returns-then-is_finite : goal.returns-then-is_finite

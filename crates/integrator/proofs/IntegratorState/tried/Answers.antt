@@ -1,7 +1,6 @@
 use mathlib.Core.Path.{sym, ◌∙◌}
 use Rattle.integrator.specs.Integrator.{advance_of}
 use Rattle.integrator.specs.Tried.{tried_of}
-use borrow.Author.Rules.{rules}
 use Rattle.integrator.proofs.IntegratorState.tried.Goals as goal
 
 pub returns-then-is_finite-2 : goal.returns-then-is_finite-2

@@ -1,4 +1,3 @@
-use borrow.Author.Rules.{rules}
 use Rattle.mixing.proofs.Routing.{flag_is_bit}
 use Rattle.mixing.proofs.Laws.{topology_told}
 use Rattle.mixing.proofs.MixingTopology.update.Goals as goal

@@ -1,4 +1,3 @@
-use borrow.Author.Rules.{rules}
 use Rattle.probe.proofs.calls.numbers.Goals as goal
 
 pub returns : goal.returns

@@ -1,4 +1,3 @@
-use borrow.Author.Rules.{rules}
 use Rattle.probe.proofs.cores.fed_at.Goals as goal
 
 pub returns-in-Readable : goal.returns-in-Readable

@@ -1,6 +1,5 @@
 use mir.Syntax.{w16}
 use mir.ValLaws.{to_z-of_z}
-use borrow.Author.Rules.{rules}
 use Rattle.probe.proofs.cores.fields.Goals as goal
 
 pub returns : goal.returns

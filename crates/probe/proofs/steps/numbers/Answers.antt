@@ -1,4 +1,3 @@
-use borrow.Author.Rules.{rules}
 use Rattle.probe.proofs.steps.numbers.Goals as goal
 
 pub returns-in-Taken : goal.returns-in-Taken

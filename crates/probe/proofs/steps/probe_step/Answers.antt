@@ -1,4 +1,3 @@
-use borrow.Author.Rules.{rules}
 use Rattle.probe.proofs.steps.probe_step.Goals as goal
 
 pub returns-in-Valid : goal.returns-in-Valid

@@ -1,5 +1,4 @@
 use Rattle.probe.specs.Steps.{fresh_sample_of}
-use borrow.Author.Rules.{rules}
 use Rattle.probe.proofs.steps.sampled.Goals as goal
 
 pub returns : goal.returns

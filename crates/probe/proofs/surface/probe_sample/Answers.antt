@@ -1,4 +1,3 @@
-use borrow.Author.Rules.{rules}
 use Rattle.probe.proofs.surface.probe_sample.Goals as goal
 
 pub returns : goal.returns

@@ -1,5 +1,4 @@
 use Rattle.signals.specs.Signals.{add_external_of}
-use borrow.Author.Rules.{rules}
 use Rattle.signals.proofs.ExternalInputState.add_to.Goals as goal
 
 pub returns : goal.returns

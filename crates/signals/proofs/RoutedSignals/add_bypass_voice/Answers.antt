@@ -1,7 +1,6 @@
 use mathlib.Core.Path.{◌∙◌}
 use Rattle.signals.proofs.Told.{bypass_pure, bypass_other}
 use Rattle.signals.specs.Signals.{add_bypass_voice_of}
-use borrow.Author.Rules.{rules}
 use Rattle.signals.proofs.RoutedSignals.add_bypass_voice.Goals as goal
 
 pub returns-then-envelope : goal.returns-then-envelope

@@ -1,5 +1,4 @@
 use Rattle.signals.specs.Signals.{add_filter_voice_of}
-use borrow.Author.Rules.{rules}
 use Rattle.signals.proofs.RoutedSignals.add_filter_voice.Goals as goal
 
 pub returns : goal.returns

@@ -1,6 +1,5 @@
 use borrow.Author.Tests.{eq-eqb, ne_eqb}
 use Rattle.signals.specs.Signals.{add_pure_voice_of}
-use borrow.Author.Rules.{rules}
 use Rattle.signals.proofs.RoutedSignals.add_pure_voice.Goals as goal
 
 pub returns-then-selection-eq4 : goal.returns-then-selection-eq4

@@ -1,4 +1,3 @@
-use borrow.Author.Rules.{rules}
 use Rattle.signals.proofs.RoutedSignals.bypass_voice_if.Goals as goal
 
 pub returns-then-on : goal.returns-then-on

@@ -1,5 +1,4 @@
 use Rattle.signals.specs.Signals.{collect_of}
-use borrow.Author.Rules.{rules}
 use Rattle.signals.proofs.RoutedSignals.collect.Goals as goal
 
 pub returns : goal.returns

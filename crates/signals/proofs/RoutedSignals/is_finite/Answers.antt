@@ -1,5 +1,4 @@
 use Rattle.signals.specs.Collecting.{finite_signals_of}
-use borrow.Author.Rules.{rules}
 use Rattle.signals.proofs.RoutedSignals.is_finite.Goals as goal
 
 pub returns : goal.returns

@@ -1,5 +1,4 @@
 use Rattle.signals.proofs.Told.{signals_put}
-use borrow.Author.Rules.{rules}
 use Rattle.signals.proofs.RoutedSignals.put.Goals as goal
 
 pub returns : goal.returns

@@ -1,5 +1,4 @@
 use Rattle.signals.proofs.Masks.{voices_told}
-use borrow.Author.Rules.{rules}
 use Rattle.signals.proofs.Voices.add_to.Goals as goal
 
 pub returns : goal.returns

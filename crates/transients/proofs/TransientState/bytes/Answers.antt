@@ -1,6 +1,5 @@
 use mathlib.Core.Path.{refl}
 use Rattle.transients.proofs.Laws.{transients_put}
-use borrow.Author.Rules.{rules}
 use Rattle.transients.proofs.TransientState.bytes.Goals as goal
 
 pub returns : goal.returns

@@ -1,4 +1,3 @@
-use borrow.Author.Rules.{rules}
 use Rattle.transients.proofs.TransientState.charge.Goals as goal
 
 pub returns : goal.returns

@@ -1,5 +1,4 @@
 use Rattle.transients.specs.Block.{transient_fields_of}
-use borrow.Author.Rules.{rules}
 use Rattle.transients.proofs.TransientState.fields.Goals as goal
 
 pub returns : goal.returns

@@ -1,5 +1,4 @@
 use Rattle.transients.specs.Transients.{finite_charges_of}
-use borrow.Author.Rules.{rules}
 use Rattle.transients.proofs.TransientState.finite_charges.Goals as goal
 
 pub returns : goal.returns

@@ -1,5 +1,4 @@
 use Rattle.transients.specs.Transients.{finite_transients_of}
-use borrow.Author.Rules.{rules}
 use Rattle.transients.proofs.TransientState.is_finite.Goals as goal
 
 pub returns : goal.returns

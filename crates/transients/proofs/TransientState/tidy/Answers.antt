@@ -1,5 +1,4 @@
 use Rattle.transients.specs.Block.{tidy_transients_of}
-use borrow.Author.Rules.{rules}
 use Rattle.transients.proofs.TransientState.tidy.Goals as goal
 
 pub returns : goal.returns
