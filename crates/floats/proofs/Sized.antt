@@ -94,6 +94,14 @@ sum_reached r s t a b c C both =
     second : (a b : ℕ) → a - b ≤ a + b
     second a b = omega arith
 
+-- By whole bounds: a fraction that is at most k rounds to a number that is,
+round_sized : (f : Format) (s : Bool) (a c : ℕ) {k : ℕ} → 0 < c → k ≤ 2 ^ prec f → a ≤ k * c → Sized (round f s a c) k
+round_sized f s a c {k} C K h = round_reached (whole_reaches f k K) s a c C h
+
+-- and two such fractions give at most the sum of the bounds.
+sum_sized : (f : Format) (s t : Bool) {a b c : ℕ} (j k : ℕ) → 0 < c → j + k ≤ 2 ^ prec f → a ≤ j * c → b ≤ k * c → Sized (sum f s a t b c) (j + k)
+sum_sized f s t {a} {b} {c} j k C K p q = sum_reached (whole_reaches f (j + k) K) s t a b c C (le_trans (add-le-add p q) (le_of_eq (sym (add-mul j k c))))
+
 -- Each part of a sum, over the divisor of both.
 pub left_part : (j a e d : ℕ) → a ≤ j * e → a * d ≤ j * (e * d)
 left_part j a e d h = le_trans (mul-le-mul_right d h) (le_of_eq (mul_assoc j e d))

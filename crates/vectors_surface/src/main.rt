@@ -2,8 +2,8 @@
 // line for each file: its name, how many of its records agree, and how many it has.
 #![tactic(auto)]
 
-mod core;
 mod curve_points;
+mod filter_core;
 mod surface;
 
 use std::fs::Files;
@@ -29,8 +29,8 @@ fn agrees(kind: Kind, r: &[u8], bundle: &[u8], curves: &[u8]) -> bool {
         Kind::AnalogueLoadPosition => surface::load_position(r),
         Kind::Sample => surface::sample(r, bundle),
         Kind::Curves => surface::curve_entry(r, curves),
-        Kind::Controls => core::controls(r, bundle),
-        Kind::FilterSample => core::sample(r, bundle, curves),
+        Kind::Controls => filter_core::controls(r, bundle),
+        Kind::FilterSample => filter_core::sample(r, bundle, curves),
         Kind::SampleCurve => curve_points::sample_curve(r, curves),
         Kind::Transfers => curve_points::transfer(r, bundle, curves),
         Kind::SamplePoint => curve_points::sample_point(r, bundle, curves),
