@@ -1,4 +1,4 @@
-// A tick on a state's block under a C name, for oracle/compare and the program vectors_ticks. No product links this.
+// A tick on a state's block, for the program vectors_ticks; under a C name, for oracle/compare, it stands in probe_ticks_c. No product links either.
 #![tactic(auto)]
 
 ghost use Rattle.std.specs.Prelude.{◌≡◌, length};
