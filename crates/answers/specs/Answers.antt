@@ -1,10 +1,18 @@
--- The table of refusals (docs/FORMATS.md): the number, the buffer and the place of each answer, 0 where the table names none.
-use Rattle.std.specs.Prelude.{Bool, cond, ℕ, eqb}
+-- The table of refusals (docs/FORMATS.md): the number, the buffer and the place of each, 0 where the table names none.
+use Rattle.std.specs.Prelude.{Bool, cond, ℕ, Result, Ok, Err}
+use Rattle.std.specs.Result.{result_and}
 use Rattle.answers.specs.declared.Buffer.{Buffer}
 use Rattle.answers.specs.declared.Buffer.TheVariants.{Bundle, Curves}
-use Rattle.answers.specs.declared.Answer.{Answer}
-use Rattle.answers.specs.declared.Answer.TheVariants.{Done, BundleLength, Header, Entry, CurvesLength, InputNotFinite, Domain, Script, OutputLength, Argument, Sources, Decays}
+use Rattle.answers.specs.declared.Refusal.{Refusal}
+use Rattle.answers.specs.declared.Refusal.TheVariants.{BundleLength, Header, Entry, CurvesLength, InputNotFinite, Domain, Script, OutputLength, Argument, Sources, Decays}
 use Rattle.answers.specs.declared.Reported.{Reported}
+
+-- Done, or a refusal.
+abbrev pub Answer : Type 0
+Answer = Result (Unit {0}) Refusal
+
+abbrev pub done : Answer
+done = Ok tt
 
 -- A number alone.
 abbrev pub alone_of : ℕ → Reported
@@ -15,37 +23,39 @@ buffer_number_of Bundle = 0
 buffer_number_of Curves = 1
 
 -- The rows of the table. 9 is unused for good.
-abbrev pub report_of : Answer → Reported
-report_of Done = alone_of 0
-report_of BundleLength = alone_of 1
-report_of (Header place) = record { number = 2; buffer = 0; place = place }
-report_of (Entry buffer place) = record { number = 3; buffer = buffer_number_of buffer; place = place }
-report_of CurvesLength = alone_of 4
-report_of InputNotFinite = alone_of 5
-report_of Domain = alone_of 6
-report_of Script = alone_of 7
-report_of OutputLength = alone_of 8
-report_of Argument = alone_of 10
-report_of Sources = alone_of 11
-report_of Decays = alone_of 12
+abbrev pub reported_of : Refusal → Reported
+reported_of BundleLength = alone_of 1
+reported_of (Header place) = record { number = 2; buffer = 0; place = place }
+reported_of (Entry buffer place) = record { number = 3; buffer = buffer_number_of buffer; place = place }
+reported_of CurvesLength = alone_of 4
+reported_of InputNotFinite = alone_of 5
+reported_of Domain = alone_of 6
+reported_of Script = alone_of 7
+reported_of OutputLength = alone_of 8
+reported_of Argument = alone_of 10
+reported_of Sources = alone_of 11
+reported_of Decays = alone_of 12
 
+-- Done is number 0.
+abbrev pub report_of : Answer → Reported
+report_of (Ok _) = alone_of 0
+report_of (Err refusal) = reported_of refusal
+
+-- The number alone.
 abbrev pub number_of : Answer → ℕ
 number_of a = (report_of a).number
 
+-- The first of two if it refuses, else the second.
+abbrev pub first_of : Answer → Answer → Answer
+first_of a b = result_and a b
+
+-- Done if the test held, else its refusal.
+abbrev pub unless_of : Bool → Refusal → Answer
+unless_of ok refusal = cond ok done (Err refusal)
+
+-- The columns of the table.
 abbrev pub buffer_of : Answer → ℕ
 buffer_of a = (report_of a).buffer
 
 abbrev pub place_of : Answer → ℕ
 place_of a = (report_of a).place
-
--- Done is number 0.
-abbrev pub is_done_of : Answer → Bool
-is_done_of a = eqb (number_of a) 0
-
--- The first of two if it refuses, else the second.
-abbrev pub first_of : Answer → Answer → Answer
-first_of a b = cond (is_done_of a) b a
-
--- Done if the test held, else its refusal.
-abbrev pub unless_of : Bool → Answer → Answer
-unless_of ok refusal = cond ok Done refusal

@@ -1,20 +1,19 @@
-// What a call answers: done, or one of the refusals of docs/FORMATS.md.
+// What a call refuses, by the table of docs/FORMATS.md, and the three numbers in which C is told.
 #![tactic(auto)]
 
 ghost use Rattle.std.specs.Prelude.{◌≡◌};
-ghost use Rattle.answers.specs.Answers.{number_of, buffer_number_of, buffer_of, place_of, report_of, is_done_of, first_of, unless_of};
+ghost use Rattle.answers.specs.Answers.{alone_of, buffer_number_of, reported_of, report_of, first_of, unless_of};
 
 // The lent buffer in which an unusable entry stands.
-#[derive(Clone, Copy)]
+#[derive(Clone, Copy, Debug, PartialEq, Eq)]
 pub enum Buffer {
     Bundle,
     Curves,
 }
 
-// Done, or a refusal by its cause. A run that turns back at an event has written the samples and the state before that event, and nothing else.
-#[derive(Clone, Copy)]
-pub enum Answer {
-    Done,
+// A refusal by its cause. A run that turns back at an event has written the samples and the state before that event, and nothing else.
+#[derive(Clone, Copy, Debug, PartialEq, Eq)]
+pub enum Refusal {
     // The bundle is not 6,127,736 bytes long. Everything is left as it was.
     BundleLength,
     // The bundle's header first differs at this byte. Everything is left as it was.
@@ -40,34 +39,26 @@ pub enum Answer {
     Decays,
 }
 
+// What a call answers that has nothing to hand out: done, or its refusal.
+pub type Answer = Result<(), Refusal>;
+
 // An answer by its number: 0 is done, and a buffer or a place that the table of refusals does not name is 0.
-#[derive(Clone, Copy)]
+#[derive(Clone, Copy, Debug, PartialEq, Eq)]
 pub struct Reported {
     pub number: u32,
     pub buffer: u32,
     pub place: u32,
 }
 
-// The columns of the table: the number, the buffer and the place.
-fn number(a: Answer) -> u32
-    ensures { result ≡ number_of a }
-{
-    match a {
-        Answer::Done => 0,
-        Answer::BundleLength => 1,
-        Answer::Header { place: _ } => 2,
-        Answer::Entry {
-            buffer: _,
-            place: _,
-        } => 3,
-        Answer::CurvesLength => 4,
-        Answer::InputNotFinite => 5,
-        Answer::Domain => 6,
-        Answer::Script => 7,
-        Answer::OutputLength => 8,
-        Answer::Argument => 10,
-        Answer::Sources => 11,
-        Answer::Decays => 12,
+impl Reported {
+    fn alone(number: u32) -> Self
+        ensures { result ≡ alone_of number }
+    {
+        Self {
+            number,
+            buffer: 0,
+            place: 0,
+        }
     }
 }
 
@@ -80,72 +71,55 @@ fn buffer_number(b: Buffer) -> u32
     }
 }
 
-fn buffer_of(a: Answer) -> u32
-    ensures { result ≡ buffer_of a }
-{
-    match a {
-        Answer::Done => 0,
-        Answer::BundleLength => 0,
-        Answer::Header { place: _ } => 0,
-        Answer::Entry { buffer, place: _ } => buffer_number(buffer),
-        Answer::CurvesLength => 0,
-        Answer::InputNotFinite => 0,
-        Answer::Domain => 0,
-        Answer::Script => 0,
-        Answer::OutputLength => 0,
-        Answer::Argument => 0,
-        Answer::Sources => 0,
-        Answer::Decays => 0,
-    }
-}
+// The rows of the table.
+impl From<Refusal> for Reported {
+    ghost from_gives = { λ refusal reported. reported ≡ reported_of refusal };
 
-fn place_of(a: Answer) -> u32
-    ensures { result ≡ place_of a }
-{
-    match a {
-        Answer::Done => 0,
-        Answer::BundleLength => 0,
-        Answer::Header { place } => place,
-        Answer::Entry { buffer: _, place } => place,
-        Answer::CurvesLength => 0,
-        Answer::InputNotFinite => 0,
-        Answer::Domain => 0,
-        Answer::Script => 0,
-        Answer::OutputLength => 0,
-        Answer::Argument => 0,
-        Answer::Sources => 0,
-        Answer::Decays => 0,
+    fn from(refusal: Refusal) -> Self {
+        match refusal {
+            Refusal::BundleLength => Self::alone(1),
+            Refusal::Header { place } => Self {
+                number: 2,
+                buffer: 0,
+                place,
+            },
+            Refusal::Entry { buffer, place } => Self {
+                number: 3,
+                buffer: buffer_number(buffer),
+                place,
+            },
+            Refusal::CurvesLength => Self::alone(4),
+            Refusal::InputNotFinite => Self::alone(5),
+            Refusal::Domain => Self::alone(6),
+            Refusal::Script => Self::alone(7),
+            Refusal::OutputLength => Self::alone(8),
+            Refusal::Argument => Self::alone(10),
+            Refusal::Sources => Self::alone(11),
+            Refusal::Decays => Self::alone(12),
+        }
     }
 }
 
 // The three numbers of an answer.
-pub fn report(a: Answer) -> Reported
-    ensures { result ≡ report_of a }
+pub fn report(answer: Answer) -> Reported
+    ensures { result ≡ report_of answer }
 {
-    Reported {
-        number: number(a),
-        buffer: buffer_of(a),
-        place: place_of(a),
+    match answer {
+        Ok(()) => Reported::alone(0),
+        Err(refusal) => refusal.into(),
     }
-}
-
-// Whether the number is 0.
-pub fn is_done(a: Answer) -> bool
-    ensures { result ≡ is_done_of a }
-{
-    number(a) == 0
 }
 
 // The first of two answers if it refuses, else the second.
 pub fn first(a: Answer, b: Answer) -> Answer
     ensures { result ≡ first_of a b }
 {
-    if is_done(a) { b } else { a }
+    a.and(b)
 }
 
 // Done if the test held, else its refusal.
-pub fn unless(ok: bool, refusal: Answer) -> Answer
+pub fn unless(ok: bool, refusal: Refusal) -> Answer
     ensures { result ≡ unless_of ok refusal }
 {
-    if ok { Answer::Done } else { refusal }
+    if ok { Ok(()) } else { Err(refusal) }
 }
