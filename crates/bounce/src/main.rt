@@ -6,7 +6,7 @@ mod files;
 mod names;
 
 use answers::Answer;
-use control::{DecodedState, State};
+use control::{Option<State>, State};
 use std::env::Env;
 use std::fs::File;
 use std::io::{Print, Write};
@@ -59,12 +59,12 @@ fn load_bundle(rt: &HostRuntime, path: &[u8]) -> u32 {
 // Opens the bundle and builds its curves.
 fn open(rt: &HostRuntime, name: &[u8], bundle: &[u8]) -> u32 {
     let opened = bundle::open(bundle);
-    if !answers::is_done(opened) {
+    if !opened.is_ok() {
         return refuse(rt, name, opened);
     }
     let mut curves = curves_room();
     let built = curves::build(bundle, &mut curves);
-    if !answers::is_done(built) {
+    if !built.is_ok() {
         return refuse(rt, name, built);
     }
     find_decays(rt, bundle, &curves)
@@ -168,7 +168,7 @@ fn widen(
 ) -> u32 {
     let mut block = [0u8; 68];
     if !State::widen(narrow, &mut block) {
-        return refuse(rt, path, Answer::Argument);
+        return refuse(rt, path, Err(Refusal::Argument));
     }
     judge(rt, bundle, curves, decays_name, decays, path, &mut block)
 }
@@ -183,11 +183,11 @@ fn judge(
     path: &[u8],
     block: &mut [u8],
 ) -> u32 {
-    let DecodedState::Valid(_) = State::decode(block) else {
-        return refuse(rt, path, Answer::Argument);
+    let Some(_) = State::decode(block) else {
+        return refuse(rt, path, Err(Refusal::Argument));
     };
     let judged = transients::judge_decays(decays);
-    if !answers::is_done(judged) {
+    if !judged.is_ok() {
         return refuse(rt, decays_name, judged);
     }
     keep(rt, bundle, curves, decays, path, block)

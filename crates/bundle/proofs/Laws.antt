@@ -14,13 +14,14 @@ use lib.Seq.{drop-cons, get_or-append-add}
 use mir.Syntax.{w16}
 use mir.Val.{of_z, SFits}
 use Rattle.answers.specs.declared.Buffer.{Buffer}
-use Rattle.answers.specs.declared.Answer.TheVariants.{Done, Entry}
-use Rattle.answers.specs.Answers.{first_of}
+use Rattle.answers.specs.declared.Refusal.TheVariants.{Entry}
+use Rattle.answers.specs.Answers.{first_of, done}
 use Rattle.wire.specs.Wire.{little, bytes_of, Bytes, byte_at, usable_at}
 use Rattle.wire.proofs.Laws.{le_or_lt, length-bytes_of, bytes_of-little}
 use borrow.Author.Tests.{eq-eqb}
 use Rattle.bundle.specs.Layout.{bundle_length, sections, pairs, words, header, displacement_index_of}
 use Rattle.bundle.specs.Opening.{header_byte, judge_places_of}
+use Rattle.std.specs.Prelude.{Err}
 
 -- ---- the bytes of numbers that stand one after the other
 
@@ -122,14 +123,14 @@ module _ (buffer : Buffer) (bytes : List ℕ) where
       go true e = e
       go false e = refl
 
-  -- Done says that each is usable.
-  pub judge_done : (places : List ℕ) → judge_places_of buffer bytes places ≡ Done → (i : ℕ) → i < length places → usable_at bytes (get_or places i 0) ≡ true
+  -- done says that each is usable.
+  pub judge_done : (places : List ℕ) → judge_places_of buffer bytes places ≡ done → (i : ℕ) → i < length places → usable_at bytes (get_or places i 0) ≡ true
   unfolding judge_places_of
   judge_done [] d i h = absurd (omega arith)
   judge_done (p ∷ rest) d i h = go (usable_at bytes p) refl i h d (judge_done rest)
     where
-      go : (u : Bool) → usable_at bytes p ≡ u → (i : ℕ) → i < length (p ∷ rest) → cond u (judge_places_of buffer bytes rest) (Entry buffer p) ≡ Done
-          → (judge_places_of buffer bytes rest ≡ Done → (k : ℕ) → k < length rest → usable_at bytes (get_or rest k 0) ≡ true) → usable_at bytes (get_or (p ∷ rest) i 0) ≡ true
+      go : (u : Bool) → usable_at bytes p ≡ u → (i : ℕ) → i < length (p ∷ rest) → cond u (judge_places_of buffer bytes rest) (Entry buffer p) ≡ done
+          → (judge_places_of buffer bytes rest ≡ done → (k : ℕ) → k < length rest → usable_at bytes (get_or rest k 0) ≡ true) → usable_at bytes (get_or (p ∷ rest) i 0) ≡ true
       go true e zero h d r = e
       go true e (suc i) h d r = r d i (omega arith)
       go false e i h d r = let z : ◌≡◌ {A = ℕ} 0 1 = cc in absurd (omega arith)

@@ -1,10 +1,9 @@
 -- What is answered of a bundle: its length and header, the entries that a call reads, and every entry on opening.
-use Rattle.std.specs.Prelude.{ℕ, ◌<◌, ◌≡◌, Bool, true, cond, List, [], ◌∷◌, length, get_or, take, eqb, leb, Float}
+use Rattle.std.specs.Prelude.{ℕ, ◌<◌, ◌≡◌, Bool, true, cond, List, [], ◌∷◌, length, get_or, take, eqb, leb, Float, Err}
 use Rattle.answers.specs.declared.Buffer.{Buffer}
 use Rattle.answers.specs.declared.Buffer.TheVariants.{Bundle}
-use Rattle.answers.specs.declared.Answer.{Answer}
-use Rattle.answers.specs.declared.Answer.TheVariants.{Done, BundleLength, Header, Entry}
-use Rattle.answers.specs.Answers.{first_of, unless_of}
+use Rattle.answers.specs.declared.Refusal.TheVariants.{BundleLength, Header, Entry}
+use Rattle.answers.specs.Answers.{first_of, unless_of, Answer, done}
 use Rattle.wire.specs.Wire.{byte_at, f32_at, usable_at}
 use Rattle.wire.specs.First.{first, first_unusable_of}
 use Rattle.bundle.specs.Layout.{Section, every_entry, bundle_length, header_length, header, entry_place}
@@ -32,7 +31,7 @@ check_of bundle =
 
 -- The first unusable one among the entries at some places of a buffer, in the order of the places.
 unfoldable pub judge_places_of : Buffer → List ℕ → List ℕ → Answer
-judge_places_of buffer bytes [] = Done
+judge_places_of buffer bytes [] = done
 judge_places_of buffer bytes (place ∷ rest) = cond (usable_at bytes place) (judge_places_of buffer bytes rest) (Entry buffer place)
 
 -- The first unusable entry of a section of the bundle.

@@ -132,20 +132,20 @@ pub fn entry_at(bundle: &[u8], place: u32) -> f32
 
 // What a call that judges each entry as it reads it gives: its value, or the refusal of the first unusable one.
 #[derive(Clone, Copy)]
-pub enum Read {
+pub enum Result<f32, Refusal> {
     Value(f32),
     Refused(Answer),
 }
 
 // The entry at a place of a buffer, judged as it is read.
-pub fn read_entry(buffer: Buffer, bytes: &[u8], place: u32) -> Read
+pub fn read_entry(buffer: Buffer, bytes: &[u8], place: u32) -> Result<f32, Refusal>
     ensures { result ≡ read_of (judge_places_of buffer bytes.now (place ∷ [])) (entry_at bytes.now place) }
 {
     let bits = wire::u32_at(bytes, place as usize);
     if wire::usable(bits) {
-        return Read::Value(wire::f32_of(bits));
+        return Ok(wire::f32_of(bits));
     }
-    Read::Refused(Answer::Entry { buffer, place })
+    Err(Refusal::Entry { buffer, place })
 }
 
 // Refuses at the first unusable one among the entries at some places, in the order of the places.
@@ -158,10 +158,10 @@ pub fn judge_places(buffer: Buffer, bytes: &[u8], places: &[u32]) -> Answer
         if wire::usable_at(bytes, place as usize) {
             i += 1;
         } else {
-            return Answer::Entry { buffer, place };
+            return Err(Refusal::Entry) { buffer, place };
         }
     }
-    Answer::Done
+    Ok(())
 }
 
 // Refuses at the first unusable one of a run of entries.
@@ -172,12 +172,12 @@ fn judge_section(bundle: &[u8], offset: usize, count: usize) -> Answer
     let index = wire::first_unusable(bundle, offset, count);
     if index < count {
         let place = (offset + 4 * index) as u32;
-        return Answer::Entry {
+        return Err(Refusal::Entry) {
             buffer: Buffer::Bundle,
             place,
         };
     }
-    Answer::Done
+    Ok(())
 }
 
 // Refuses at the first unusable entry of the analogue surface.
@@ -247,13 +247,13 @@ pub fn check(bundle: &[u8]) -> Answer
     ensures { result ≡ check_of bundle.now }
 {
     if bundle.len() != BYTES {
-        return Answer::BundleLength;
+        return Err(Refusal::BundleLength);
     }
     let place = first_difference(bundle);
     if place < HEADER_BYTES {
-        return Answer::Header { place };
+        return Err(Refusal::Header) { place };
     }
-    Answer::Done
+    Ok(())
 }
 
 // The length, the header, then every entry in order.
@@ -261,7 +261,7 @@ pub fn open(bundle: &[u8]) -> Answer
     ensures { result ≡ open_of bundle.now }
 {
     let checked = check(bundle);
-    if answers::is_done(checked) {
+    if checked.is_ok() {
         return judge_section(bundle, HEADER_BYTES as usize, ENTRIES);
     }
     checked

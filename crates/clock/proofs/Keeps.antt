@@ -10,7 +10,7 @@ use lib.Ieee.{Float, binary32, le, lt, fits, of_bits}
 use lib.Ieee.Fits.{add-fits, mul-fits}
 use lib.Ieee.Scale.{finite}
 use Rattle.constants.specs.Values as K
-use Rattle.answers.specs.declared.Answer.TheVariants.{Done, Domain, Decays}
+use Rattle.answers.specs.declared.Refusal.TheVariants.{Domain, Decays}
 use Rattle.answers.proofs.Laws.{unless_done}
 use Rattle.floats.specs.Arithmetic.{◌⊕◌, ◌⊖◌, ◌⊗◌, f32}
 use Rattle.floats.specs.Floats.{finite_f32_of}
@@ -18,8 +18,6 @@ use Rattle.floats.proofs.Laws.{both, finite_f32, f32_fits, f32_finite}
 use Rattle.floats.proofs.Shrinking.{add_parts, sub_parts, mul_parts, shrunk_finite, blend_zero_finite, blend_one_finite}
 use Rattle.wire.specs.Wire.{f32_at}
 use Rattle.integrator.specs.declared.IntegratorState.{IntegratorState}
-use Rattle.bundle.specs.declared.Read.{Read}
-use Rattle.bundle.specs.declared.Read.TheVariants.{Value, Refused as Unread}
 use Rattle.voice.specs.declared.VoiceSignal.{VoiceSignal}
 use Rattle.voice.specs.Levels.{source_resting_of}
 use Rattle.transients.specs.declared.TransientState.{TransientState}
@@ -32,14 +30,15 @@ use Rattle.signals.specs.Collecting.{finite_signals_of}
 use Rattle.signals.proofs.Fits.{pure_fits}
 use Rattle.controls.specs.declared.OutputControls.{OutputControls}
 use Rattle.sample.specs.declared.Sampled.{Sampled}
-use Rattle.sample.specs.declared.Sampled.TheVariants.{Taken, Refused as Untaken}
 use Rattle.activity.specs.Activity.{attack_charge_of, bypass_output_gain_of}
 use Rattle.clock.specs.declared.Factors.{Factors}
 use Rattle.clock.specs.declared.Settings.{Settings}
 use Rattle.clock.specs.declared.Ticked.{Ticked}
-use Rattle.clock.specs.declared.Ticked.TheVariants.{Clocked, Refused}
 use Rattle.clock.specs.Transients as R
 use Rattle.clock.specs.Clock as C
+use Rattle.answers.specs.Answers.{done}
+use Rattle.std.specs.Prelude.{Err, Result, Float, Ok}
+use Rattle.answers.specs.declared.Refusal.{Refusal}
 
 -- ---- factors from 0 to 1
 
@@ -63,7 +62,7 @@ unfolding factor_at
 factor_tame s p h = let b = both (le (f32 0) (f32_at s p)) (le (f32_at s p) (f32 0x3f80_0000)) h in record { low = b.0; high = b.1 }
 
 -- The numbers that the test of the decays lets through are tame.
-pub judged_tame : (decays : List ℕ) → judge_decays_of decays ≡ Done → Tame (R.factors_of decays)
+pub judged_tame : (decays : List ℕ) → judge_decays_of decays ≡ done → Tame (R.factors_of decays)
 unfolding judge_decays_of R.factors_of
 judged_tame s h =
     let a : ℕ → Bool = factor_at s in
@@ -232,11 +231,11 @@ decayed_finite t f k d =
 -- ---- the tick
 
 -- The test of the state after leaves a tick as it is.
-abbrev Kept : Ticked → Type 0
+abbrev Kept : Result Ticked Refusal → Type 0
 Kept x = C.finite_after_of x ≡ x
 
 -- A tick behind a test is kept where it is kept once the test held.
-if_kept : (b : Bool) (x : Ticked) → (b ≡ true → Kept x) → Kept (cond b x (Refused Domain))
+if_kept : (b : Bool) (x : Result Ticked Refusal) → (b ≡ true → Kept x) → Kept (cond b x (Err Domain))
 if_kept true x h = h refl
 if_kept false x h = refl
 
@@ -271,30 +270,30 @@ module _ (s : Settings) (voices : Voices) (signals : RoutedSignals) (t : Transie
       charge = R.node_charge_of held
 
       go : (finite stage && finite charge && finite mixer) ≡ true
-          → Kept (Clocked (record { stage = stage; charge = charge; mixer = mixer; filter = filter }) i (R.decayed_of held s.factors))
+          → Kept (Ok (record { outputs = (record { stage = stage; charge = charge; mixer = mixer; filter = filter }); integrator = i; transients = (R.decayed_of held s.factors) }))
       go h =
           let b = both (finite stage) (finite charge) (both (finite stage && finite charge) (finite mixer) h).0 in
           let a = displacement_attack s.output (R.combined_activity_of voices) signals held.bypass_attack_charge (stage_displacement level displacement gain b.0) in
           rw (parts_finite (R.decayed_of held s.factors) (decayed_finite held s.factors (held_finite a b.1) f)) refl
 
   -- What a curve's entries or the core refuse is refused before.
-  levelled_kept : (i : IntegratorState) (filter mixer : Float) (r : Read) → Kept (C.levelled_of s voices signals t i filter mixer r)
+  levelled_kept : (i : IntegratorState) (filter mixer : Float) (r : Result Float Refusal) → Kept (C.levelled_of s voices signals t i filter mixer r)
   unfolding C.levelled_of
-  levelled_kept i filter mixer (Value level) = clocked_kept i filter mixer level
-  levelled_kept i filter mixer (Unread answer) = refl
+  levelled_kept i filter mixer (Ok level) = clocked_kept i filter mixer level
+  levelled_kept i filter mixer (Err answer) = refl
 
-  mixed_kept : (curves : List ℕ) (i : IntegratorState) (filter : Float) (r : Read) → Kept (C.mixed_tick_of curves s voices signals t i filter r)
+  mixed_kept : (curves : List ℕ) (i : IntegratorState) (filter : Float) (r : Result Float Refusal) → Kept (C.mixed_tick_of curves s voices signals t i filter r)
   unfolding C.mixed_tick_of
-  mixed_kept curves i filter (Value raw) = levelled_kept i filter _ _
-  mixed_kept curves i filter (Unread answer) = refl
+  mixed_kept curves i filter (Ok raw) = levelled_kept i filter _ _
+  mixed_kept curves i filter (Err answer) = refl
 
-  after_core_kept : (curves : List ℕ) (c : Sampled) → Kept (C.after_core_of curves s voices signals t c)
+  after_core_kept : (curves : List ℕ) (c : Result Sampled Refusal) → Kept (C.after_core_of curves s voices signals t c)
   unfolding C.after_core_of
-  after_core_kept curves (Taken o i) = mixed_kept curves i o.selected _
-  after_core_kept curves (Untaken answer) = refl
+  after_core_kept curves (Ok (record { outputs = o; state = i })) = mixed_kept curves i o.selected _
+  after_core_kept curves (Err answer) = refl
 
 -- The state after a tick is finite, or the tick was refused before.
-pub tick_keeps : (curves : List ℕ) (core : Float → Float → Sampled) (s : Settings) (t : TransientState) (voices : Voices)
+pub tick_keeps : (curves : List ℕ) (core : Float → Float → Result Sampled Refusal) (s : Settings) (t : TransientState) (voices : Voices)
     → finite_transients_of t ≡ true → Tame s.factors → C.finite_after_of (C.tick_of curves core s t voices) ≡ C.tick_of curves core s t voices
 unfolding C.tick_of
 tick_keeps curves core s t voices h f = if_kept (finite_signals_of signals) _ go

@@ -209,13 +209,13 @@ fn decayed(mut held: TransientState, factors: Factors) -> TransientState
 // ---- the rest of a tick, from the core's output on
 
 // The volume DAC's output: the operating point where all three voices stand still, else the volume's curve.
-fn volume_stage(curves: &[u8], settings: Settings, voices: Voices, mixer: f32) -> Read
+fn volume_stage(curves: &[u8], settings: Settings, voices: Voices, mixer: f32) -> Result<f32, Refusal>
     ensures { result ≡ C.volume_stage_of curves.now settings voices mixer }
 {
     let output = settings.output;
     let slots = settings.slots;
     if frozen::configured(output.frozen_dac_bias_mode, voices) {
-        return Read::Value(frozen::frozen_dac_operating_point(settings.mode, settings.volume));
+        return Ok(frozen::frozen_dac_operating_point(settings.mode, settings.volume));
     }
     transfers::read_volume(curves, slots.volume, mixer)
 }
@@ -300,7 +300,7 @@ fn clocked(
         };
     }
     Ticked::Refused {
-        answer: Answer::Domain,
+        answer: Err(Refusal::Domain),
     }
 }
 
@@ -322,13 +322,13 @@ fn levelled(
     integrator: IntegratorState,
     filter: f32,
     mixer: f32,
-    level: Read,
+    level: Result<f32, Refusal>,
 ) -> Ticked
     ensures { result ≡ C.levelled_of settings voices signals held integrator filter mixer level }
 {
     match level {
-        Read::Refused(answer) => Ticked::Refused { answer },
-        Read::Value(value) => clocked(
+        Err(answer) => Ticked::Refused { answer },
+        Ok(value) => clocked(
             settings, voices, signals, held, integrator, filter, mixer, value,
         ),
     }
@@ -343,14 +343,14 @@ fn mixed_tick(
     held: TransientState,
     integrator: IntegratorState,
     filter: f32,
-    mixed: Read,
+    mixed: Result<f32, Refusal>,
 ) -> Ticked
     ensures { result ≡ C.mixed_tick_of curves.now settings voices signals held integrator filter mixed }
 {
     let output = settings.output;
     match mixed {
-        Read::Refused(answer) => Ticked::Refused { answer },
-        Read::Value(raw) => {
+        Err(answer) => Ticked::Refused { answer },
+        Ok(raw) => {
             let mixer = activity::mixer_output(
                 is_quiescent(settings),
                 signals.bypass_envelope_activity,
@@ -420,7 +420,7 @@ pub fn tick_from_parts(
     feedback_drives: &[f32; 16],
     core: CoreControls,
     mode_output_gain: f32,
-    rest: Read,
+    rest: Result<f32, Refusal>,
     settings: Settings,
     integrator: IntegratorState,
     earlier: IntegratorState,
@@ -455,7 +455,7 @@ pub fn tick_from_parts(
         return after_core(curves, settings, voices, signals, held, sampled);
     }
     Ticked::Refused {
-        answer: Answer::Domain,
+        answer: Err(Refusal::Domain),
     }
 }
 
@@ -477,7 +477,7 @@ fn finite_after(ticked: Ticked) -> Ticked
                 };
             }
             Ticked::Refused {
-                answer: Answer::Domain,
+                answer: Err(Refusal::Domain),
             }
         }
         Ticked::Refused { answer } => Ticked::Refused { answer },

@@ -16,8 +16,8 @@ use Rattle.transients.specs.Block.{transient_bytes, tidy_transients_of}
 use Rattle.transients.proofs.Laws.{transients_long}
 use Rattle.control.specs.declared.FilterRegisters.{FilterRegisters}
 use Rattle.control.specs.declared.State.{State}
-use Rattle.control.specs.declared.DecodedState.TheVariants.{Valid, Invalid}
 use Rattle.control.specs.Block.{valid_of, narrow_bytes, block_of, fields_of, tidy_of, decode_of, encode_of}
+use Rattle.std.specs.Prelude.{Some, None}
 
 pub narrow_long : (r : FilterRegisters) (i : IntegratorState) → length (narrow_bytes r i) ≡ 24
 unfolding narrow_bytes bytes_of
@@ -53,10 +53,10 @@ module _ (s : State) (old : List ℕ) where
 
 -- by the tests that the code made
 pub decode_told : (b : List ℕ) → length b ≡ 68 → (t : Bool) {s : State} {x y v : Bool} → s ≡ fields_of b → x ≡ tidy_of b → y ≡ tidy_transients_of b → v ≡ valid_of s
-    → (x && y && v) ≡ t → cond t (Valid s) Invalid ≡ decode_of b
+    → (x && y && v) ≡ t → cond t (Some s) None ≡ decode_of b
 unfolding decode_of
 decode_told b long t ps px py pv h = rw (eq-eqb _ _ long, ← h, pv, px, py, ps)
 
-pub decode_not : (b : List ℕ) → (length b ≡ 68 → ⊥) → Invalid ≡ decode_of b
+pub decode_not : (b : List ℕ) → (length b ≡ 68 → ⊥) → None ≡ decode_of b
 unfolding decode_of
 decode_not b h = rw (ne_eqb _ _ h)

@@ -1,5 +1,5 @@
 pub mod Laws
 pub mod Block
-pub mod Valid
+pub mod Some
 pub mod RoundTrip
 pub mod Widening

@@ -27,10 +27,10 @@ use Rattle.transients.specs.Transients.{finite_transients_of}
 use Rattle.transients.specs.Block.{transient_bytes, transient_fields_of, tidy_transients_of}
 use Rattle.transients.proofs.Laws.{finite_parts}
 use Rattle.control.specs.declared.State.{State}
-use Rattle.control.specs.declared.DecodedState.TheVariants.{Valid, Invalid}
 use Rattle.control.specs.Block.{finite_floats_of, valid_of, narrow_bytes, block_of, register_fields_of, integrator_fields_of, fields_of, tidy_of, decode_of, encode_of}
 use Rattle.control.proofs.Block.{block_long}
 use Rattle.control.proofs.Valid.{Within, Ranges, valid_ranges, four}
+use Rattle.std.specs.Prelude.{Some, None}
 
 -- ---- the floats of a valid state
 
@@ -117,12 +117,12 @@ tidy_last : (s : State) → tidy_transients_of (block_of s) ≡ true
 unfolding tidy_transients_of block_of narrow_bytes transient_bytes bytes_of
 tidy_last s = rw (flag_le s.transients.pulse_gate_pending) refl
 
-pub decode_block : (s : State) → valid_of s ≡ true → decode_of (block_of s) ≡ Valid s
+pub decode_block : (s : State) → valid_of s ≡ true → decode_of (block_of s) ≡ Some s
 unfolding decode_of
 decode_block s h = rw (block_long s, tidy_block s, tidy_last s, fields_block s h, h)
 
 -- Decoding an encoded valid state gives the state.
-pub decode_encoded : (s : State) (old : List ℕ) → valid_of s ≡ true → length old ≡ 68 → decode_of (encode_of s old) ≡ Valid s
+pub decode_encoded : (s : State) (old : List ℕ) → valid_of s ≡ true → length old ≡ 68 → decode_of (encode_of s old) ≡ Some s
 unfolding encode_of
 decode_encoded s old h l = rw (eq-eqb (length old) 68 l) (decode_block s h)
 
@@ -136,11 +136,11 @@ pub record Decodes (b : List ℕ) (s : State) : Type 0 where
   pub valid : valid_of s ≡ true
   pub fields : fields_of b ≡ s
 
-pub decoded : (b : List ℕ) (s : State) → decode_of b ≡ Valid s → Decodes b s
+pub decoded : (b : List ℕ) (s : State) → decode_of b ≡ Some s → Decodes b s
 unfolding decode_of
 decoded b s e = go (eqb (length b) 68 && tidy_of b && tidy_transients_of b && valid_of (fields_of b)) refl e
   where
-    go : (t : Bool) → (eqb (length b) 68 && tidy_of b && tidy_transients_of b && valid_of (fields_of b)) ≡ t → cond t (Valid (fields_of b)) Invalid ≡ Valid s → Decodes b s
+    go : (t : Bool) → (eqb (length b) 68 && tidy_of b && tidy_transients_of b && valid_of (fields_of b)) ≡ t → cond t (Some (fields_of b)) None ≡ Some s → Decodes b s
     go true h e =
         let f = four (eqb (length b) 68) (tidy_of b) (tidy_transients_of b) (valid_of (fields_of b)) h in
         let same : fields_of b ≡ s = cc in
@@ -239,7 +239,7 @@ block_fields b s c k =
     rw (narrow_fields b c (omega arith) k.tidy g.floats, transient_fields b c l k.last g.transients, ← take-add 24 44 b) (take_all 68 b (omega arith))
 
 -- Encoding a decoded block gives its bytes.
-pub encode_decoded : (b : List ℕ) (s : State) → Bytes b → decode_of b ≡ Valid s → (block_of s ≡ b) × (encode_of s b ≡ b)
+pub encode_decoded : (b : List ℕ) (s : State) → Bytes b → decode_of b ≡ Some s → (block_of s ≡ b) × (encode_of s b ≡ b)
 unfolding encode_of
 encode_decoded b s c e =
     let k = decoded b s e in
@@ -248,4 +248,4 @@ encode_decoded b s c e =
 
 -- Two valid states are the same where their 68 bytes are.
 pub same_bytes : (s t : State) → valid_of s ≡ true → valid_of t ≡ true → block_of s ≡ block_of t → s ≡ t
-same_bytes s t v w e = let d : Valid s ≡ Valid t = sym (decode_block s v) ∙ ap decode_of e ∙ decode_block t w in cc
+same_bytes s t v w e = let d : Some s ≡ Some t = sym (decode_block s v) ∙ ap decode_of e ∙ decode_block t w in cc

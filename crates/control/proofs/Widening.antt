@@ -19,13 +19,13 @@ use Rattle.transients.specs.Block.{transient_bytes}
 use Rattle.transients.proofs.Laws.{at_volume_zero, at_volume_finite}
 use Rattle.control.specs.declared.FilterRegisters.{FilterRegisters}
 use Rattle.control.specs.declared.State.{State}
-use Rattle.control.specs.declared.DecodedState.TheVariants.{Valid}
 use Rattle.control.specs.Registers.{starting_state}
 use Rattle.control.specs.Block.{valid_registers_of, finite_floats_of, valid_of, narrow_bytes, block_of, register_fields_of, integrator_fields_of, tidy_of, decode_of, encode_of}
 use Rattle.control.specs.Widening.{narrow_valid_of, wide_of, widens_of, widened_of}
 use Rattle.control.proofs.Block.{narrow_long}
 use Rattle.control.proofs.Valid.{four}
 use Rattle.control.proofs.RoundTrip.{decode_block, narrow_fields}
+use Rattle.std.specs.Prelude.{Some, None}
 
 -- ---- what is widened is valid where the block is
 
@@ -91,7 +91,7 @@ module _ (b old : List ℕ) (h : narrow_valid_of b ≡ true) (l : length old ≡
   parts = four true (eqb (length b) 24) (tidy_of b) valid h
 
   -- Widened, it decodes to its own fields, nothing charged and the conductance of its volume;
-  pub widened_decodes : decode_of (widened_of b old) ≡ Valid (wide_of b)
+  pub widened_decodes : decode_of (widened_of b old) ≡ Some (wide_of b)
   unfolding widened_of
   widened_decodes = rw (h, eq-eqb (length old) 68 l) (decode_block (wide_of b) (wide_valid_is b ∙ parts.3))
 

@@ -1,5 +1,5 @@
 -- The state block (docs/FORMATS.md): which states are valid, the 68 bytes of a state, and the state that bytes stand for.
-use Rattle.std.specs.Prelude.{ℕ, Bool, cond, ◌&&◌, List, [], ◌∷◌, ◌++◌, leb, eqb, length}
+use Rattle.std.specs.Prelude.{ℕ, Bool, cond, ◌&&◌, List, [], ◌∷◌, ◌++◌, leb, eqb, length, Option, Some, None}
 use Rattle.std.specs.Int.Signed.{le_z}
 use Rattle.std.specs.Int.{w16}
 use mir.Val.{of_z, bool_byte}
@@ -11,8 +11,6 @@ use Rattle.transients.specs.Block.{transient_bytes, transient_fields_of, tidy_tr
 use Rattle.control.specs.Registers.{cutoff_max, nibble_max, displacement_min, displacement_max}
 use Rattle.control.specs.declared.FilterRegisters.{FilterRegisters}
 use Rattle.control.specs.declared.State.{State}
-use Rattle.control.specs.declared.DecodedState.{DecodedState}
-use Rattle.control.specs.declared.DecodedState.TheVariants.{Valid, Invalid}
 
 -- ---- validity
 
@@ -81,8 +79,8 @@ unfoldable pub tidy_of : List ℕ → Bool
 tidy_of b = leb (byte_at b 6) 1 && eqb (byte_at b 11) 0
 
 -- 68 bytes long, the bytes that are no numbers as they should be, and the fields a valid state.
-unfoldable pub decode_of : List ℕ → DecodedState
-decode_of b = cond (eqb (length b) block_length && tidy_of b && tidy_transients_of b && valid_of (fields_of b)) (Valid (fields_of b)) Invalid
+unfoldable pub decode_of : List ℕ → Option State
+decode_of b = cond (eqb (length b) block_length && tidy_of b && tidy_transients_of b && valid_of (fields_of b)) (Some (fields_of b)) None
 
 -- A block of 68 bytes takes the state's; any other bytes stay.
 unfoldable pub encode_of : State → List ℕ → List ℕ

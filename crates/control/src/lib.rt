@@ -34,7 +34,7 @@ pub struct State {
 
 // What a block stands for.
 #[derive(Clone, Copy)]
-pub enum DecodedState {
+pub enum Option<State> {
     Valid(State),
     Invalid,
 }
@@ -351,17 +351,17 @@ impl State {
     }
 
     // The state of a valid block. Its length is looked at first, so that no field needs a test of its own.
-    pub fn decode(block: &[u8]) -> DecodedState
+    pub fn decode(block: &[u8]) -> Option<State>
         ensures { result ≡ decode_of block.now }
     {
         if block.len() != State::BYTES {
-            return DecodedState::Invalid;
+            return None;
         }
         let state = State::fields(block);
         if tidy(block) & TransientState::tidy(block) & state.is_valid() {
-            return DecodedState::Valid(state);
+            return Some(state);
         }
-        DecodedState::Invalid
+        None
     }
 
     // A 24-byte block as one of 68 bytes: nothing charged, and the conductance of its volume. Where either is not as it should be the target stays.

@@ -1,10 +1,9 @@
 -- What the refresh calls read, in the Rust's order, and whether what they work out is finite: refusals 3 and 6 of the controls.
-use Rattle.std.specs.Prelude.{ℕ, ◌%◌, Bool, true, cond, ◌&&◌, List, [], ◌∷◌, eqb, Float}
+use Rattle.std.specs.Prelude.{ℕ, ◌%◌, Bool, true, cond, ◌&&◌, List, [], ◌∷◌, eqb, Float, Err}
 use Rattle.std.specs.Float.Ieee.Scale.{finite}
-use Rattle.answers.specs.declared.Answer.{Answer}
-use Rattle.answers.specs.declared.Answer.TheVariants.{Domain}
+use Rattle.answers.specs.declared.Refusal.TheVariants.{Domain}
 use Rattle.answers.specs.declared.Buffer.TheVariants.{Bundle}
-use Rattle.answers.specs.Answers.{first_of, unless_of}
+use Rattle.answers.specs.Answers.{first_of, unless_of, Answer}
 use Rattle.bundle.specs.Layout.{integrator_gain_place, damping_place, source_gain_modulation_place, highpass_loading_place, directional_power_place}
 use Rattle.bundle.specs.Opening.{judge_places_of}
 use Rattle.response.specs.Gain.{is_single_mode_of, mode_index_of}

@@ -8,8 +8,8 @@ use lib.Ieee.{Float}
 use lib.ListN.{length, take, drop}
 use borrow.Rule.Slice.PartMut.{put_mid, Post-is}
 use borrow.Author.Tests.{eqb-true}
-use Rattle.answers.specs.declared.Answer.TheVariants.{Done, CurvesLength}
-use Rattle.answers.specs.Answers.{first_of}
+use Rattle.answers.specs.declared.Refusal.TheVariants.{CurvesLength}
+use Rattle.answers.specs.Answers.{first_of, done}
 use Rattle.answers.proofs.Laws.{first_done, unless_done}
 use Rattle.wire.specs.Wire.{u32_at, usable_of, float_bytes, put_at, rows}
 use Rattle.wire.proofs.Laws.{length_rows, put_at_in, number_at-take, number_at-drop}
@@ -22,6 +22,7 @@ use Rattle.curves.specs.Sampling.{last_base, load_position_of, table_place}
 use Rattle.curves.specs.Building.{load_curve_of, curve_load_of, curve_entry_of, curve_length, curves_length, build_curve_of, judge_length_of, judge_build_of}
 use Rattle.curves.specs.Inner.{row_length, table_row_of, UsableRow, blend_of, blend_rows_of, Buildable}
 use Rattle.curves.proofs.Laws.{load_lower, load_upper}
+use Rattle.std.specs.Prelude.{Err}
 
 -- ---- the row of a load
 
@@ -33,7 +34,7 @@ module _ (bundle : List ℕ) (long : length bundle ≡ bundle_length) (base : �
       let q : table_place base + 4 * code ≡ table_place (base + code) = omega arith in
       number_at-take 4 (drop (table_place base) bundle) row_length (4 * code) (omega arith) ∙ number_at-drop 4 bundle (table_place base) (4 * code) (omega arith) ∙ ap (u32_at bundle) q
 
-  pub row_usable : judge_section_of bundle analogue_surface ≡ Done → UsableRow (table_row_of bundle base)
+  pub row_usable : judge_section_of bundle analogue_surface ≡ done → UsableRow (table_row_of bundle base)
   row_usable d code l = ap usable_of (row_word code (omega arith)) ∙ section_done bundle analogue_surface d (base + code) (omega arith)
 
 -- ---- rows that are equal one by one
@@ -85,7 +86,7 @@ last_again lower upper fraction curve = refl
 
 -- ---- what a build that is not refused stands on
 
-pub build_done : (bundle curves : List ℕ) → judge_build_of bundle curves ≡ Done → Buildable bundle × (length curves ≡ curves_length)
+pub build_done : (bundle curves : List ℕ) → judge_build_of bundle curves ≡ done → Buildable bundle × (length curves ≡ curves_length)
 unfolding judge_build_of
 build_done bundle curves d =
     let lent = first_done (first_of (check_of bundle) (judge_length_of curves)) (judge_section_of bundle analogue_surface) d in

@@ -9,7 +9,6 @@ use lib.Ieee.{Float, binary32, of_bits, fits}
 use lib.Ieee.Fits.{add-fits, mul-fits}
 use lib.ListN.{length}
 use Rattle.answers.specs.declared.Buffer.TheVariants.{Bundle}
-use Rattle.answers.specs.declared.Answer.TheVariants.{Done}
 use Rattle.wire.specs.Wire.{usable_at}
 use Rattle.wire.proofs.Laws.{length_rows, number_at-rows}
 use Rattle.wire.proofs.Floats.{f32_at-rows}
@@ -20,6 +19,7 @@ use Rattle.curves.specs.Sampling.{last_input, last_base, load_position_of, input
 use Rattle.curves.specs.Building.{load_curve_of, curve_load_of, volume_entry_of, finished_of, curve_entry_of, curve_length, curves_length, build_curve_of, build_curves_of}
 use Rattle.curves.proofs.Laws.{load_lower, load_upper, input_lower, input_upper}
 use Rattle.curves.proofs.Building.{length_curve}
+use Rattle.answers.specs.Answers.{done}
 
 module _ (bundle : List ℕ) where
   pub length_curves : length (build_curves_of bundle) ≡ curves_length
@@ -54,7 +54,7 @@ module _ (bundle : List ℕ) (a : Accepted bundle) where
   pub corner : (base index : ℕ) → base ≤ last_base → index ≤ last_input → usable_at bundle (table_place (base + index)) ≡ true
   corner base index h l = section_done bundle analogue_surface (surface_usable bundle a) (base + index) (omega arith)
 
-  pub sample_accepted : (conductance input : Float) → judge_places_of Bundle bundle (sample_places_of conductance input) ≡ Done
+  pub sample_accepted : (conductance input : Float) → judge_places_of Bundle bundle (sample_places_of conductance input) ≡ done
   unfolding judge_places_of sample_places_of corners_of
   sample_accepted conductance input =
       let load = load_position_of conductance in

@@ -9,7 +9,7 @@ use lib.ListN.{replicate}
 use lib.Ieee.{binary32, of_int, of_bits, to_bits, add, sub, mul, div}
 use lib.Ieee.Bits.{to_bits-lt}
 use Rattle.answers.specs.declared.Buffer.TheVariants.{Curves}
-use Rattle.answers.specs.declared.Answer.TheVariants.{Entry}
+use Rattle.answers.specs.declared.Refusal.TheVariants.{Entry}
 use Rattle.floats.specs.Arithmetic.{f32}
 use Rattle.wire.specs.Wire.{u32_at, usable_of, float_bytes}
 use Rattle.wire.proofs.Laws.{length-bytes_of, number_at-bytes_of, number_at-rows}
@@ -18,6 +18,7 @@ use Rattle.curves.specs.Sampling.{curve_place}
 use Rattle.curves.specs.Building.{volume_entry_of, curve_entry_of, curve_length, build_curve_of, build_curves_of}
 use Rattle.curves.proofs.Building.{length_curve}
 use Rattle.curves.proofs.Built.{entry_fits}
+use Rattle.std.specs.Prelude.{Err}
 
 -- Where the surface has -1,024, which is usable, the entry of volume 0 is -1,024.5, and at no volume is it usable.
 pub written_beyond : volume_entry_of 0 (f32 0xc480_0000) ≡ f32 0xc480_1000

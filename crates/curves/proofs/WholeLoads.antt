@@ -12,7 +12,6 @@ use lib.Ieee.{Float, binary32, is_nan, fits, of_bits, of_int, to_bits, to_unsign
 use lib.Ieee.Bits.{of_bits-fits}
 use lib.Ieee.Fits.{add-fits}
 use Rattle.answers.specs.declared.Buffer.TheVariants.{Curves}
-use Rattle.answers.specs.declared.Answer.TheVariants.{Done}
 use Rattle.floats.specs.Arithmetic.{f32}
 use Rattle.floats.proofs.Laws.{both}
 use Rattle.floats.proofs.Numbers.{Number, finite_number}
@@ -32,6 +31,7 @@ use Rattle.curves.specs.Building.{load_curve_of, curve_load_of, finished_of, cur
 use Rattle.curves.proofs.Laws.{load_lower, load_upper, input_lower, input_upper}
 use Rattle.curves.proofs.Built.{corner, built_entry}
 use Rattle.curves.proofs.Volume.{built_word}
+use Rattle.answers.specs.Answers.{done}
 
 -- ---- the ten loads
 
@@ -157,7 +157,7 @@ module _ (bundle : List ℕ) (a : Accepted bundle) (g : ℕ) (h : g ≤ 6) where
       ap usable_of (built_word bundle g k (omega arith) l ∙ ap (to_bits binary32) (summer_entry k))
       ∙ sized_usable _ (curve_fits bundle _ k) (entry_sized bundle a g (omega arith) k)
 
-  pub read_accepted : (input : Float) → judge_places_of Curves (build_curves_of bundle) (sample_curve_places_of g input) ≡ Done
+  pub read_accepted : (input : Float) → judge_places_of Curves (build_curves_of bundle) (sample_curve_places_of g input) ≡ done
   unfolding judge_places_of sample_curve_places_of
   read_accepted input =
       let at = input_position_of input in

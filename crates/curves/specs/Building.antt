@@ -1,10 +1,9 @@
 -- The 31 curves of `Filter::new`, operation by operation, and what building them answers.
-use Rattle.std.specs.Prelude.{ℕ, ◌+◌, ◌-◌, min, cond, List, eqb, ltb, pos, length, Float}
+use Rattle.std.specs.Prelude.{ℕ, ◌+◌, ◌-◌, min, cond, List, eqb, ltb, pos, length, Float, Err, is_ok}
 use Rattle.std.specs.Float.{binary32}
 use Rattle.std.specs.Float.Ieee.{of_int}
-use Rattle.answers.specs.declared.Answer.{Answer}
-use Rattle.answers.specs.declared.Answer.TheVariants.{CurvesLength}
-use Rattle.answers.specs.Answers.{is_done_of, first_of, unless_of}
+use Rattle.answers.specs.declared.Refusal.TheVariants.{CurvesLength}
+use Rattle.answers.specs.Answers.{first_of, unless_of, Answer}
 use Rattle.constants.specs.Values as K
 use Rattle.floats.specs.Arithmetic.{◌⊕◌, ◌⊖◌, ◌⊗◌, ◌⊘◌, f32}
 use Rattle.wire.specs.Wire.{float_bytes, rows}
@@ -66,4 +65,4 @@ judge_build_of bundle curves = first_of (first_of (check_of bundle) (judge_lengt
 
 -- The buffer at the end: the curves, or as it was where the build is refused.
 unfoldable pub build_of : List ℕ → List ℕ → List ℕ
-build_of bundle curves = cond (is_done_of (judge_build_of bundle curves)) (build_curves_of bundle) curves
+build_of bundle curves = cond (is_ok (judge_build_of bundle curves)) (build_curves_of bundle) curves

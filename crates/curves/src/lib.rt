@@ -100,17 +100,17 @@ fn sample_places(conductance: f32, input: f32) -> [u32; 4]
 }
 
 // Between two entries, each judged as it is read.
-fn read_between(buffer: Buffer, bytes: &[u8], lower: u32, upper: u32, fraction: f32) -> Read
+fn read_between(buffer: Buffer, bytes: &[u8], lower: u32, upper: u32, fraction: f32) -> Result<f32, Refusal>
     ensures { result ≡ read_of (judge_places_of buffer bytes.now (lower ∷ upper ∷ [])) (interpolate_of (entry_at bytes.now lower) (entry_at bytes.now upper) fraction) }
 {
     let first = bundle::read_entry(buffer, bytes, lower);
     match first {
-        Read::Refused(answer) => Read::Refused(answer),
-        Read::Value(from) => {
+        Err(answer) => Err(answer),
+        Ok(from) => {
             let second = bundle::read_entry(buffer, bytes, upper);
             match second {
-                Read::Refused(answer) => Read::Refused(answer),
-                Read::Value(to) => Read::Value(response::interpolate(from, to, fraction)),
+                Err(answer) => Err(answer),
+                Ok(to) => Ok(response::interpolate(from, to, fraction)),
             }
         }
     }
@@ -141,7 +141,7 @@ pub fn sample(bundle: &[u8], conductance: f32, input: f32) -> f32
 }
 
 // A load's row at an input, each entry judged as it is read.
-fn read_row(bundle: &[u8], base: usize, at: TablePosition) -> Read
+fn read_row(bundle: &[u8], base: usize, at: TablePosition) -> Result<f32, Refusal>
     requires { (base ≤ last_base) × (at.lower ≤ last_input) × (at.upper ≤ last_input) }
     ensures { result ≡ read_row_of bundle.now base at }
 {
@@ -151,19 +151,19 @@ fn read_row(bundle: &[u8], base: usize, at: TablePosition) -> Read
 }
 
 // `sample`, each entry judged as it is read.
-pub fn read_sample(bundle: &[u8], conductance: f32, input: f32) -> Read
+pub fn read_sample(bundle: &[u8], conductance: f32, input: f32) -> Result<f32, Refusal>
     ensures { result ≡ read_of (judge_places_of Bundle bundle.now (sample_places_of conductance input)) (sample_of bundle.now conductance input) }
 {
     let load = load_position(conductance);
     let at = input_position(input);
     let lower = read_row(bundle, load.lower_base, at);
     match lower {
-        Read::Refused(answer) => Read::Refused(answer),
-        Read::Value(from) => {
+        Err(answer) => Err(answer),
+        Ok(from) => {
             let upper = read_row(bundle, load.upper_base, at);
             match upper {
-                Read::Refused(answer) => Read::Refused(answer),
-                Read::Value(to) => Read::Value(response::interpolate(from, to, load.fraction)),
+                Err(answer) => Err(answer),
+                Ok(to) => Ok(response::interpolate(from, to, load.fraction)),
             }
         }
     }
@@ -233,7 +233,7 @@ pub fn sample_curve(curves: &[u8], curve: u8, input: f32) -> f32
 }
 
 // `sample_curve`, each entry judged as it is read.
-pub fn read_curve(curves: &[u8], curve: u8, input: f32) -> Read
+pub fn read_curve(curves: &[u8], curve: u8, input: f32) -> Result<f32, Refusal>
     ensures { result ≡ read_of (judge_places_of Curves curves.now (sample_curve_places_of curve input)) (sample_curve_of curves.now curve input) }
 {
     let at = input_position(input);
@@ -254,7 +254,7 @@ pub fn judge_summer_resting_output(bundle: &[u8], count: u8) -> Answer
             response::filter_mode_quiescent_level(),
         );
     }
-    Answer::Done
+    Ok(())
 }
 
 // The summer's output at rest, for a count of inputs with the two that are always there.
@@ -272,7 +272,7 @@ pub fn summer_resting_output(bundle: &[u8], count: u8) -> f32
 }
 
 // `summer_resting_output`, each entry judged as it is read. It depends on the bundle and the count alone, so a run may keep it.
-pub fn read_resting_output(bundle: &[u8], count: u8) -> Read
+pub fn read_resting_output(bundle: &[u8], count: u8) -> Result<f32, Refusal>
     ensures { result ≡ read_of (judge_places_of Bundle bundle.now (summer_resting_places_of count)) (summer_resting_output_of bundle.now count) }
 {
     if 2 <= count {
@@ -282,7 +282,7 @@ pub fn read_resting_output(bundle: &[u8], count: u8) -> Read
             response::filter_mode_quiescent_level(),
         );
     }
-    Read::Value(0.0)
+    Ok(0.0)
 }
 
 // ---- building
@@ -394,7 +394,7 @@ fn build_curves(bundle: &[u8], curves: &mut [u8])
 pub fn judge_length(curves: &[u8]) -> Answer
     ensures { result ≡ judge_length_of curves.now }
 {
-    answers::unless(curves.len() == BYTES, Answer::CurvesLength)
+    answers::unless(curves.len() == BYTES, Refusal::CurvesLength)
 }
 
 // The bundle's length and header, the buffer's length, then every entry of the surface.
@@ -402,7 +402,7 @@ fn judge_build(bundle: &[u8], curves: &[u8]) -> Answer
     ensures { result ≡ judge_build_of bundle.now curves.now }
 {
     let checked = answers::first(bundle::check(bundle), judge_length(curves));
-    if answers::is_done(checked) {
+    if checked.is_ok() {
         return bundle::judge_surface(bundle);
     }
     checked
@@ -414,7 +414,7 @@ pub fn build(bundle: &[u8], curves: &mut [u8]) -> Answer
     ensures curves_after { curves.new ≡ build_of bundle.now curves.old }
 {
     let judged = judge_build(bundle, curves);
-    if answers::is_done(judged) {
+    if judged.is_ok() {
         build_curves(bundle, curves);
     }
     judged

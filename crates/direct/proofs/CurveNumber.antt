@@ -5,24 +5,24 @@ use mathlib.Core.Bool.{Bool, true, false, cond}
 use mathlib.Core.List.{List}
 use lib.Ieee.{Float}
 use borrow.Author.Tests.{lt-leb}
-use Rattle.answers.specs.declared.Answer.{Answer}
-use Rattle.answers.specs.declared.Answer.TheVariants.{Argument}
-use Rattle.answers.specs.Answers.{is_done_of, first_of}
+use Rattle.answers.specs.declared.Refusal.TheVariants.{Argument}
+use Rattle.answers.specs.Answers.{first_of, Answer}
 use Rattle.curves.specs.declared.CurvePoint.{CurvePoint}
 use Rattle.curves.specs.Sampling.{curve_point_of, no_point}
 use Rattle.curves.specs.Building.{judge_length_of}
 use Rattle.direct.specs.declared.Pointed.{Pointed}
 use Rattle.direct.specs.Calls.{judged_point_of, sample_curve_answer_of, sample_curve_call_of}
+use Rattle.std.specs.Prelude.{Err, is_ok}
 
 -- A refused call hands out zeros, whatever the point would be.
-refused_point : (judged : Answer) (p : CurvePoint) → is_done_of judged ≡ false → ◌≡◌ {A = Pointed} (judged_point_of judged p) (record { answer = judged; point = no_point })
+refused_point : (judged : Answer) (p : CurvePoint) → is_ok judged ≡ false → ◌≡◌ {A = Pointed} (judged_point_of judged p) (record { answer = judged; point = no_point })
 refused_point judged p h = simp h
 
 -- After whatever was judged before it.
-pub then_argument : (before : Answer) → is_done_of (first_of before Argument) ≡ false
-then_argument before = go (is_done_of before) refl
+pub then_argument : (before : Answer) → is_ok (first_of before Argument) ≡ false
+then_argument before = go (is_ok before) refl
   where
-    go : (d : Bool) → is_done_of before ≡ d → is_done_of (cond d Argument before) ≡ false
+    go : (d : Bool) → is_ok before ≡ d → is_ok (cond d Argument before) ≡ false
     go true h = refl
     go false h = h
 

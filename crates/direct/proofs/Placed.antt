@@ -6,8 +6,6 @@ use mathlib.Core.List.{List}
 use lib.Dec.{leb}
 use lib.Ieee.{Float, binary32}
 use lib.Ieee.Scale.{finite}
-use Rattle.answers.specs.declared.Answer.{Answer}
-use Rattle.answers.specs.Answers.{is_done_of}
 use Rattle.floats.proofs.Numbers.{finite_number, minuend_number}
 use Rattle.mixing.specs.declared.MixingTopology.{MixingTopology}
 use Rattle.curves.specs.declared.CurvePoint.{CurvePoint}
@@ -16,12 +14,14 @@ use Rattle.curves.proofs.Point.{Placed, none_placed, curve_placed}
 use Rattle.transfers.specs.Transfers.{mixer_slot_of, mixer_average_of, mixer_point_of, volume_slot_of, volume_point_of}
 use Rattle.sample.specs.Sample.{summer_slot_of, summer_inputs_of, average_of, summer_transfer_of, summer_point_of}
 use Rattle.direct.specs.Calls.{judged_point_of, sample_curve_answer_of, sample_curve_call_of, summer_answer_of, summer_transfer_call_of, mixer_answer_of, mixer_transfer_call_of, volume_answer_of, volume_transfer_call_of}
+use Rattle.answers.specs.Answers.{Answer}
+use Rattle.std.specs.Prelude.{is_ok}
 
 -- A point is handed out where its value is finite; in its place there are zeros.
 judged_placed : (judged : Answer) (p : CurvePoint) → (finite p.value ≡ true → Placed p) → Placed (judged_point_of judged p).point
-judged_placed judged p placed = go (is_done_of judged) (finite p.value) refl refl
+judged_placed judged p placed = go (is_ok judged) (finite p.value) refl refl
   where
-    go : (d v : Bool) → is_done_of judged ≡ d → finite p.value ≡ v → Placed (judged_point_of judged p).point
+    go : (d v : Bool) → is_ok judged ≡ d → finite p.value ≡ v → Placed (judged_point_of judged p).point
     go true true h i = rw (h, i) (placed i)
     go true false h i = rw (h, i) none_placed
     go false v h i = rw (h, h) none_placed

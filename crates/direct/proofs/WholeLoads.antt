@@ -8,7 +8,6 @@ use borrow.Author.Tests.{eq-eqb, le-leb}
 use lib.Dec.{T, lit≤}
 use lib.Ieee.{Float, binary32, is_nan, eq, of_bits, of_int, div}
 use lib.Ieee.Scale.{finite}
-use Rattle.answers.specs.declared.Answer.TheVariants.{Done}
 use Rattle.floats.specs.Arithmetic.{f32}
 use Rattle.floats.proofs.Numbers.{finite_number}
 use Rattle.floats.proofs.Sized.{sized_finite, of_int_sized}
@@ -26,6 +25,7 @@ use Rattle.sample.proofs.AtRest.{average_rests, summer_zero, summer_rests}
 use Rattle.direct.specs.declared.Valued.{Valued}
 use Rattle.direct.specs.declared.Pointed.{Pointed}
 use Rattle.direct.specs.Calls.{sample_call_of, sample_curve_answer_of, sample_curve_call_of, summer_answer_of, summer_transfer_call_of}
+use Rattle.answers.specs.Answers.{done}
 
 half_finite : finite (reciprocal_of 2) ≡ true
 unfolding reciprocal_of of_bits of_int div
@@ -33,20 +33,20 @@ half_finite = refl
 
 -- Both are answered, and their values are equal by the IEEE test.
 pub record Agree (sampled : Valued) (read : Pointed) : Type 0 where
-  pub sampled_done : sampled.answer ≡ Done
-  pub read_done : read.answer ≡ Done
+  pub sampled_done : sampled.answer ≡ done
+  pub read_done : read.answer ≡ done
   pub equal : eq sampled.value read.point.value ≡ true
 
 -- It is answered, with a zero.
 pub record Rests (summed : Pointed) : Type 0 where
-  pub summed_done : summed.answer ≡ Done
+  pub summed_done : summed.answer ≡ done
   pub zero_out : eq summed.point.value (f32 0) ≡ true
 
 module _ (bundle : List ℕ) (a : Accepted bundle) where
-  pub bundle_checked : check_of bundle ≡ Done
+  pub bundle_checked : check_of bundle ≡ done
   bundle_checked = check_passes bundle a.long a.fixed
 
-  pub built_long : judge_length_of (build_curves_of bundle) ≡ Done
+  pub built_long : judge_length_of (build_curves_of bundle) ≡ done
   built_long = rw (eq-eqb _ _ (length_curves bundle)) refl
 
   -- ---- every finite input: at the ten loads, and at 0 to 6, which the built curves have
@@ -55,13 +55,13 @@ module _ (bundle : List ℕ) (a : Accepted bundle) where
     number : T (not (is_nan input))
     number = (finite_number input known).real
 
-    pub sampled_value : (g : ℕ) → g ≤ 9 → sample_call_of bundle (whole_load g) input ≡ record { answer = Done; value = sample_of bundle (whole_load g) input }
+    pub sampled_value : (g : ℕ) → g ≤ 9 → sample_call_of bundle (whole_load g) input ≡ record { answer = done; value = sample_of bundle (whole_load g) input }
     unfolding sample_call_of
     sampled_value g h =
         let load : finite (whole_load g) ≡ true = sized_finite (of_int_sized binary32 h (lit≤ tt)) in
         rw (bundle_checked, load, known, sample_accepted bundle a (whole_load g) input, sized_finite (sample_sized bundle a g h input number)) refl
 
-    read_point : (g : ℕ) → g ≤ 6 → sample_curve_call_of (build_curves_of bundle) g input ≡ record { answer = Done; point = curve_point_of (build_curves_of bundle) g input }
+    read_point : (g : ℕ) → g ≤ 6 → sample_curve_call_of (build_curves_of bundle) g input ≡ record { answer = done; point = curve_point_of (build_curves_of bundle) g input }
     unfolding sample_curve_call_of sample_curve_answer_of curve_point_of
     read_point g h =
         let value = sized_finite (same_sized (same_sym (built_same bundle a g h input number)) (sample_sized bundle a g (omega arith) input number)) in
@@ -74,13 +74,13 @@ module _ (bundle : List ℕ) (a : Accepted bundle) where
   -- ---- no input routed, in every mode, and a sum of 0 of either sign
 
   module _ (mode : ℕ) (sum : Float) (silent : eq sum (f32 0) ≡ true) where
-    rest_read : judge_summer_of bundle (build_curves_of bundle) 2 (topology_of 0 mode) sum ≡ Done
+    rest_read : judge_summer_of bundle (build_curves_of bundle) 2 (topology_of 0 mode) sum ≡ done
     unfolding judge_summer_of summer_resting_places_of topology_of filter_count_of
     rest_read =
         let rest = filter_mode_quiescent_level_of in
         rw (average_rests mode sum silent, read_accepted bundle a 2 (lit≤ tt) rest, sample_accepted bundle a (whole_load 2) rest) refl
 
-    summer_answered : summer_answer_of bundle (build_curves_of bundle) (topology_of 0 mode) sum ≡ Done
+    summer_answered : summer_answer_of bundle (build_curves_of bundle) (topology_of 0 mode) sum ≡ done
     unfolding summer_answer_of topology_of filter_count_of
     summer_answered = rw (bundle_checked, built_long, half_finite, zero_finite (equal_zero binary32 sum silent), rest_read) refl
 

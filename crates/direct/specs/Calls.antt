@@ -1,10 +1,9 @@
 -- What the direct calls answer, each in the order of the table in docs/FORMATS.md: 1, 2, 4, 10, 5, 3, 6 for what it takes.
-use Rattle.std.specs.Prelude.{ℕ, ◌%◌, Bool, false, ◌&&◌, cond, List, [], ◌∷◌, eqb, leb, Float}
+use Rattle.std.specs.Prelude.{ℕ, ◌%◌, Bool, false, ◌&&◌, cond, List, [], ◌∷◌, eqb, leb, Float, Err, is_ok}
 use Rattle.std.specs.Float.Ieee.Scale.{finite}
 use Rattle.answers.specs.declared.Buffer.TheVariants.{Bundle, Curves}
-use Rattle.answers.specs.declared.Answer.{Answer}
-use Rattle.answers.specs.declared.Answer.TheVariants.{InputNotFinite, Domain, Argument}
-use Rattle.answers.specs.Answers.{is_done_of, first_of, unless_of}
+use Rattle.answers.specs.declared.Refusal.TheVariants.{InputNotFinite, Domain, Argument}
+use Rattle.answers.specs.Answers.{first_of, unless_of, Answer}
 use Rattle.floats.specs.Arithmetic.{f32}
 use Rattle.integrator.specs.declared.IntegratorState.{IntegratorState}
 use Rattle.integrator.specs.declared.FilterOutputs.{FilterOutputs}
@@ -38,19 +37,19 @@ use Rattle.direct.specs.declared.Binned.{Binned}
 abbrev pub judged_value_of : Answer → Float → Valued
 judged_value_of judged value =
     let answer = first_of judged (unless_of (finite value) Domain) in
-    record { answer = answer; value = cond (is_done_of answer) value (f32 0) }
+    record { answer = answer; value = cond (is_ok answer) value (f32 0) }
 
 -- The same for a point, by its value. A refused call stands on no curve.
 abbrev pub judged_point_of : Answer → CurvePoint → Pointed
 judged_point_of judged point =
     let answer = first_of judged (unless_of (finite point.value) Domain) in
-    record { answer = answer; point = cond (is_done_of answer) point no_point }
+    record { answer = answer; point = cond (is_ok answer) point no_point }
 
 -- ---- the analogue surface and its curves
 
 -- `load_position`: 10
 abbrev pub load_or : Answer → AnalogueLoadPosition → AnalogueLoadPosition
-load_or answer position = cond (is_done_of answer) position (record { lower_base = 0; upper_base = 0; fraction = f32 0 })
+load_or answer position = cond (is_ok answer) position (record { lower_base = 0; upper_base = 0; fraction = f32 0 })
 
 unfoldable pub load_position_call_of : Float → Positioned
 load_position_call_of conductance =
@@ -127,7 +126,7 @@ finite_coefficients_of k = finite k.damping && finite k.feedback_drive && finite
 
 abbrev pub advanced_or : Answer → Advanced → Advanced
 advanced_or answer advanced =
-    cond (is_done_of answer) advanced
+    cond (is_ok answer) advanced
     (record {
       outputs = record { high_pass = f32 0; band_pass = f32 0; low_pass = f32 0 };
       state = record { band_state = f32 0; low_state = f32 0; filter_source_energy = f32 0 };
@@ -150,7 +149,7 @@ advance_call_of s driven_input k =
 abbrev pub topology_or : Answer → MixingTopology → MixingTopology
 topology_or answer topology =
     let none = false ∷ false ∷ false ∷ false ∷ [] in
-    cond (is_done_of answer) topology
+    cond (is_ok answer) topology
     (record {
       filter_membership = none;
       bypass_membership = none;
@@ -178,7 +177,7 @@ unfoldable pub normalise_voltage_call_of : Float → Valued
 normalise_voltage_call_of voltage = judged_value_of (unless_of (finite voltage) Argument) (normalise_voltage_of voltage)
 
 abbrev pub bins_or : Answer → TablePosition → TablePosition
-bins_or answer position = cond (is_done_of answer) position (record { lower = 0; upper = 0; fraction = f32 0 })
+bins_or answer position = cond (is_ok answer) position (record { lower = 0; upper = 0; fraction = f32 0 })
 
 -- `operating_position`: 10
 unfoldable pub operating_position_call_of : Float → Float → Float → Binned

@@ -59,9 +59,9 @@ pub struct Binned {
 fn judged_value(judged: Answer, value: f32) -> Valued
     ensures { result ≡ C.judged_value_of judged value }
 {
-    let domain = answers::unless(floats::is_finite(value), Answer::Domain);
+    let domain = answers::unless(floats::is_finite(value), Refusal::Domain);
     let answer = answers::first(judged, domain);
-    if answers::is_done(answer) {
+    if answer.is_ok() {
         return Valued { answer, value };
     }
     Valued { answer, value: 0.0 }
@@ -73,7 +73,7 @@ fn judged_point(judged: Answer, point: CurvePoint) -> Pointed
 {
     let valued = judged_value(judged, point.value);
     let answer = valued.answer;
-    if answers::is_done(answer) {
+    if answer.is_ok() {
         return Pointed { answer, point };
     }
     Pointed {
@@ -87,7 +87,7 @@ fn judged_point(judged: Answer, point: CurvePoint) -> Pointed
 fn load_or(answer: Answer, position: AnalogueLoadPosition) -> AnalogueLoadPosition
     ensures { result ≡ C.load_or answer position }
 {
-    if answers::is_done(answer) {
+    if answer.is_ok() {
         return position;
     }
     AnalogueLoadPosition {
@@ -101,7 +101,7 @@ fn load_or(answer: Answer, position: AnalogueLoadPosition) -> AnalogueLoadPositi
 pub fn load_position(conductance: f32) -> Positioned
     ensures { result ≡ C.load_position_call_of conductance }
 {
-    let answer = answers::unless(floats::is_finite(conductance), Answer::Argument);
+    let answer = answers::unless(floats::is_finite(conductance), Refusal::Argument);
     Positioned {
         answer,
         position: load_or(answer, curves::load_position(conductance)),
@@ -114,7 +114,7 @@ pub fn sample(bundle: &[u8], conductance: f32, input: f32) -> Valued
 {
     let value = curves::sample(bundle, conductance, input);
     let known = floats::is_finite(conductance) & floats::is_finite(input);
-    let argument = answers::unless(known, Answer::Argument);
+    let argument = answers::unless(known, Refusal::Argument);
     let entries = curves::judge_sample(bundle, conductance, input);
     let judged = answers::first(argument, entries);
     judged_value(answers::first(bundle::check(bundle), judged), value)
@@ -128,12 +128,12 @@ pub fn sample_curve(curves: &[u8], curve: u32, input: f32) -> Pointed
     if curve <= 30 {
         let slot = curve as u8;
         let point = curves::curve_point(curves, slot, input);
-        let argument = answers::unless(floats::is_finite(input), Answer::Argument);
+        let argument = answers::unless(floats::is_finite(input), Refusal::Argument);
         let entries = curves::judge_sample_curve(curves, slot, input);
         let judged = answers::first(long, answers::first(argument, entries));
         return judged_point(judged, point);
     }
-    judged_point(answers::first(long, Answer::Argument), curves::no_point())
+    judged_point(answers::first(long, Err(Refusal::Argument)), curves::no_point())
 }
 
 // ---- summer, mixer and volume
@@ -151,8 +151,8 @@ pub fn summer_transfer(
     let point = sample::summer_point(bundle, curves, slot, topology, input_sum);
     let known = (topology.filter_input_count <= 4)
         & floats::is_finite(topology.summer_input_reciprocal);
-    let argument = answers::unless(known, Answer::Argument);
-    let sum = answers::unless(floats::is_finite(input_sum), Answer::InputNotFinite);
+    let argument = answers::unless(known, Refusal::Argument);
+    let sum = answers::unless(floats::is_finite(input_sum), Refusal::InputNotFinite);
     let entries = sample::judge_summer(bundle, curves, slot, topology, input_sum);
     let judged = answers::first(argument, answers::first(sum, entries));
     let long = answers::first(curves::judge_length(curves), judged);
@@ -166,7 +166,7 @@ pub fn mixer_transfer(curves: &[u8], topology: MixingTopology, input_sum: f32) -
     let slot = transfers::mixer_slot(topology.mixer_input_count);
     let point = transfers::mixer_point(curves, slot, topology, input_sum);
     let finite = floats::is_finite(topology.mixer_input_reciprocal) & floats::is_finite(input_sum);
-    let argument = answers::unless(finite, Answer::Argument);
+    let argument = answers::unless(finite, Refusal::Argument);
     let entries = transfers::judge_mixer(curves, slot, topology, input_sum);
     let judged = answers::first(argument, entries);
     judged_point(answers::first(curves::judge_length(curves), judged), point)
@@ -178,7 +178,7 @@ pub fn volume_transfer(curves: &[u8], volume: u8, value: f32) -> Pointed
 {
     let slot = transfers::volume_slot(volume);
     let point = transfers::volume_point(curves, slot, value);
-    let argument = answers::unless((volume <= 15) & floats::is_finite(value), Answer::Argument);
+    let argument = answers::unless((volume <= 15) & floats::is_finite(value), Refusal::Argument);
     let entries = transfers::judge_volume(curves, slot, value);
     let judged = answers::first(argument, entries);
     judged_point(answers::first(curves::judge_length(curves), judged), point)
@@ -191,7 +191,7 @@ pub fn saturate(value: f32, drive: f32) -> Valued
     ensures { result ≡ C.saturate_call_of value drive }
 {
     let known = floats::is_finite(value) & floats::is_finite(drive);
-    let argument = answers::unless(known, Answer::Argument);
+    let argument = answers::unless(known, Refusal::Argument);
     judged_value(argument, IntegratorState::saturate(value, drive))
 }
 
@@ -222,7 +222,7 @@ fn finite_coefficients(k: Coefficients) -> bool
 fn advanced_or(answer: Answer, advanced: Advanced) -> Advanced
     ensures { result ≡ C.advanced_or answer advanced }
 {
-    if answers::is_done(answer) {
+    if answer.is_ok() {
         return advanced;
     }
     Advanced {
@@ -247,8 +247,8 @@ pub fn advance(state: IntegratorState, driven_input: f32, k: Coefficients) -> Su
     let next = advanced.state;
     let outputs = advanced.outputs;
     let known = finite_state(state) & floats::is_finite(driven_input) & finite_coefficients(k);
-    let domain = answers::unless(finite_state(next) & finite_outputs(outputs), Answer::Domain);
-    let answer = answers::first(answers::unless(known, Answer::Argument), domain);
+    let domain = answers::unless(finite_state(next) & finite_outputs(outputs), Refusal::Domain);
+    let answer = answers::first(answers::unless(known, Refusal::Argument), domain);
     Substepped {
         answer,
         advanced: advanced_or(answer, advanced),
@@ -260,7 +260,7 @@ pub fn advance(state: IntegratorState, driven_input: f32, k: Coefficients) -> Su
 fn topology_or(answer: Answer, topology: MixingTopology) -> MixingTopology
     ensures { result ≡ C.topology_or answer topology }
 {
-    if answers::is_done(answer) {
+    if answer.is_ok() {
         return topology;
     }
     MixingTopology {
@@ -282,7 +282,7 @@ fn topology_or(answer: Answer, topology: MixingTopology) -> MixingTopology
 pub fn mixing_topology(routing: u8, mode: u8) -> Routed
     ensures { result ≡ C.mixing_topology_call_of routing mode }
 {
-    let answer = answers::unless((routing <= 15) & (mode <= 15), Answer::Argument);
+    let answer = answers::unless((routing <= 15) & (mode <= 15), Refusal::Argument);
     Routed {
         answer,
         topology: topology_or(answer, MixingTopology::update(routing, mode)),
@@ -302,14 +302,14 @@ pub fn filter_mode_quiescent_level() -> f32
 pub fn normalise_voltage(voltage: f32) -> Valued
     ensures { result ≡ C.normalise_voltage_call_of voltage }
 {
-    let argument = answers::unless(floats::is_finite(voltage), Answer::Argument);
+    let argument = answers::unless(floats::is_finite(voltage), Refusal::Argument);
     judged_value(argument, response::normalise_voltage(voltage))
 }
 
 fn bins_or(answer: Answer, position: TablePosition) -> TablePosition
     ensures { result ≡ C.bins_or answer position }
 {
-    if answers::is_done(answer) {
+    if answer.is_ok() {
         return position;
     }
     TablePosition {
@@ -324,7 +324,7 @@ pub fn operating_position(input: f32, band: f32, low: f32) -> Binned
     ensures { result ≡ C.operating_position_call_of input band low }
 {
     let known = floats::is_finite(input) & floats::is_finite(band) & floats::is_finite(low);
-    let answer = answers::unless(known, Answer::Argument);
+    let answer = answers::unless(known, Refusal::Argument);
     Binned {
         answer,
         position: bins_or(answer, response::operating_position(input, band, low)),
@@ -335,7 +335,7 @@ pub fn operating_position(input: f32, band: f32, low: f32) -> Binned
 pub fn volume_dac_conductance_code(volume: u8) -> Valued
     ensures { result ≡ C.volume_dac_conductance_code_call_of volume }
 {
-    let argument = answers::unless(volume <= 15, Answer::Argument);
+    let argument = answers::unless(volume <= 15, Refusal::Argument);
     judged_value(argument, response::volume_dac_conductance_code(volume))
 }
 
@@ -343,7 +343,7 @@ pub fn volume_dac_conductance_code(volume: u8) -> Valued
 pub fn filter_output_common_mode(mode: u8, cutoff: u16) -> Valued
     ensures { result ≡ C.filter_output_common_mode_call_of mode cutoff }
 {
-    let argument = answers::unless((mode <= 15) & (cutoff <= 2047), Answer::Argument);
+    let argument = answers::unless((mode <= 15) & (cutoff <= 2047), Refusal::Argument);
     judged_value(argument, response::filter_output_common_mode(mode, cutoff))
 }
 
@@ -355,7 +355,7 @@ fn judge_loading(bundle: &[u8], mode: u8, cutoff: u16) -> Answer
         let places = [bundle::highpass_loading_place(cutoff)];
         return bundle::judge_places(Buffer::Bundle, bundle, &places);
     }
-    Answer::Done
+    Ok(())
 }
 
 // The output gain of a mode at a resonance and the effective cutoff. Refuses 1, 2, 10, 3, 6.
@@ -365,7 +365,7 @@ pub fn filter_mode_output_gain(bundle: &[u8], mode: u8, resonance: u8, cutoff: u
     let loading = bundle::entry_at(bundle, bundle::highpass_loading_place(cutoff));
     let gain = response::filter_mode_output_gain(mode, resonance, cutoff, loading);
     let known = (mode <= 15) & (resonance <= 15) & (cutoff <= 2047);
-    let argument = answers::unless(known, Answer::Argument);
+    let argument = answers::unless(known, Refusal::Argument);
     let judged = answers::first(argument, judge_loading(bundle, mode, cutoff));
     judged_value(answers::first(bundle::check(bundle), judged), gain)
 }

@@ -8,15 +8,12 @@ use native.Mathlib.Omega.{arith}
 use lib.Ieee.{Float, of_bits, of_int, div}
 use lib.Ieee.Scale.{finite}
 use borrow.Author.Tests.{le-leb}
-use Rattle.answers.specs.declared.Answer.{Answer}
-use Rattle.answers.specs.declared.Answer.TheVariants.{Done, Domain, Argument}
-use Rattle.answers.specs.Answers.{is_done_of, first_of, unless_of}
+use Rattle.answers.specs.declared.Refusal.TheVariants.{Domain, Argument}
+use Rattle.answers.specs.Answers.{first_of, unless_of, Answer, done}
 use Rattle.answers.proofs.Laws.{done_is, first_done, first_of_done, unless_done}
 use Rattle.bundle.specs.Opening.{check_of}
 use Rattle.curves.specs.Building.{judge_length_of}
 use Rattle.integrator.specs.declared.IntegratorState.{IntegratorState}
-use Rattle.integrator.specs.declared.Substeps.{Substeps}
-use Rattle.integrator.specs.declared.Substeps.TheVariants.{Settled, NotFinite}
 use Rattle.mixing.specs.declared.MixingTopology.{MixingTopology}
 use Rattle.mixing.specs.Topology.{topology_of, filter_count_of, output_count_of, mixer_count_of, reciprocal_of}
 use Rattle.mixing.proofs.Facts.{filter_most, output_most, mixer_most}
@@ -34,7 +31,6 @@ use Rattle.refresh.specs.Refresh.{judge_gain_of}
 use Rattle.refresh.proofs.Parts.{judged_by_parts}
 use Rattle.sample.specs.declared.Outputs.{Outputs}
 use Rattle.sample.specs.declared.Sampled.{Sampled}
-use Rattle.sample.specs.declared.Sampled.TheVariants.{Taken, Refused}
 use Rattle.sample.specs.Sample.{summer_slot_of, judge_input_of, judge_reads_of, judge_sample_of, filter_sample_of, taken_of, advance_filter_core_of, select_filter_output_of}
 use Rattle.sample.proofs.Valid.{finite_taken, sample_valid}
 use Rattle.script.specs.declared.Event.{Event}
@@ -46,17 +42,20 @@ use Rattle.filter.specs.Core.{fresh_topology_of, core_of, judge_core_of, countab
 use Rattle.filter.specs.Core.{change_of, take_of, feed_event_of, core_write_of, core_sample_of, feed_of}
 use Rattle.filter.specs.Plain.{Plain, refused_at, plain_start, judge_change_of, plain_change, plain_taken, plain_sample, plain_step, plain_trace}
 use Rattle.filter.specs.Lists.{core_trace, is_sample, shown, shown_all, Fresh, AllFresh}
+use Rattle.std.specs.Prelude.{Err, is_ok, Option, Some, None, Result, Ok}
+use Rattle.integrator.specs.declared.Advanced.{Advanced}
+use Rattle.answers.specs.declared.Refusal.{Refusal}
 
 -- What every core of a list has: a valid state, all else worked out afresh from it, and controls that are not refused.
 pub record Invariant (l : Lent) (k : Core) : Type 0 where
   pub valid : valid_of k.state ≡ true
   pub fresh : Fresh l k
-  pub judged : judge_controls_of l.bundle k.state ≡ Done
+  pub judged : judge_controls_of l.bundle k.state ≡ done
 
 -- ---- controls that are not refused
 
-module _ (bundle : List ℕ) (s : State) (judged : judge_controls_of bundle s ≡ Done) where
-  parts : (judge_entries_of bundle s ≡ Done) × (judge_domain_of bundle s ≡ Done)
+module _ (bundle : List ℕ) (s : State) (judged : judge_controls_of bundle s ≡ done) where
+  parts : (judge_entries_of bundle s ≡ done) × (judge_domain_of bundle s ≡ done)
   unfolding judge_controls_of
   parts = first_done (judge_entries_of bundle s) (judge_domain_of bundle s) judged
 
@@ -64,7 +63,7 @@ module _ (bundle : List ℕ) (s : State) (judged : judge_controls_of bundle s �
   unfolding judge_domain_of
   all_finite = unless_done (finite_controls_of (controls_of bundle s)) Domain refl parts.1
 
-  filter_usable : judge_filter_of bundle (effective_cutoff_of s) s.registers.resonance ≡ Done
+  filter_usable : judge_filter_of bundle (effective_cutoff_of s) s.registers.resonance ≡ done
   unfolding judge_entries_of
   filter_usable = (first_done (judge_filter_of bundle (effective_cutoff_of s) s.registers.resonance) _ parts.0).0
 
@@ -78,7 +77,7 @@ abbrev Changes : Lent → Core → State → Fed → Type 0
 Changes l k t r = (changed r ≡ plain_change l k.state t) × Invariant l r.core
 
 -- what is not refused of a change
-pub change_parts : (bundle : List ℕ) (t : State) → judge_change_of bundle t ≡ Done → (judge_controls_of bundle t ≡ Done) × (finite_transients_of t.transients ≡ true)
+pub change_parts : (bundle : List ℕ) (t : State) → judge_change_of bundle t ≡ done → (judge_controls_of bundle t ≡ done) × (finite_transients_of t.transients ≡ true)
 unfolding judge_change_of
 change_parts bundle t h =
     let p = first_done (judge_controls_of bundle t) (unless_of (finite_transients_of t.transients) Domain) h in
@@ -92,9 +91,9 @@ change_quiet bundle t h = rw h (sym (first_of_done (judge_controls_of bundle t))
 -- one law for all five: `new` is worked out afresh from the next state, which is valid where its transients are finite
 module _ (l : Lent) (k : Core) (t : State) (new : Core) (kept : Invariant l k) (New_is : new ≡ core_of l t) (valid : finite_transients_of t.transients ≡ true → valid_of t ≡ true) where
   settles : {answer : Answer} → answer ≡ judge_change_of l.bundle t → Changes l k t (quiet_of (settled_of answer k new))
-  settles is = rw is (go (is_done_of (judge_change_of l.bundle t)) refl)
+  settles is = rw is (go (is_ok (judge_change_of l.bundle t)) refl)
     where
-      go : (d : Bool) → is_done_of (judge_change_of l.bundle t) ≡ d → Changes l k t (quiet_of (settled_of (judge_change_of l.bundle t) k new))
+      go : (d : Bool) → is_ok (judge_change_of l.bundle t) ≡ d → Changes l k t (quiet_of (settled_of (judge_change_of l.bundle t) k new))
       go true h =
           let j = done_is (judge_change_of l.bundle t) h in
           let p = change_parts l.bundle t j in
@@ -164,16 +163,16 @@ module _ (l : Lent) (k : Core) (kept : Invariant l k) where
 -- ---- what a refused sample has, and what a topology
 
 -- a refused sample has a refusal
-unfoldable pub refuses : Sampled → Bool
-refuses (Taken outputs i) = true
-refuses (Refused answer) = not (is_done_of answer)
+unfoldable pub refuses : Result Sampled Refusal → Bool
+refuses (Ok (record { outputs = outputs; state = i })) = true
+refuses (Err answer) = not (is_ok answer)
 
-pub taken_refuses : (c : ControlCache) (count mode : ℕ) (moved : Substeps) → refuses (taken_of c count mode moved) ≡ true
+pub taken_refuses : (c : ControlCache) (count mode : ℕ) (moved : Option Advanced) → refuses (taken_of c count mode moved) ≡ true
 unfolding taken_of refuses
-taken_refuses c count mode NotFinite = refl
-taken_refuses c count mode (Settled a) = go (finite (select_filter_output_of c count mode a.outputs)) _ _
+taken_refuses c count mode None = refl
+taken_refuses c count mode (Some a) = go (finite (select_filter_output_of c count mode a.outputs)) _ _
   where
-    go : (t : Bool) (o : Outputs) (i : IntegratorState) → refuses (cond t (Taken o i) (Refused Domain)) ≡ true
+    go : (t : Bool) (o : Outputs) (i : IntegratorState) → refuses (cond t (Ok (record { outputs = o; state = i })) (Err Domain)) ≡ true
     go true o i = refl
     go false o i = refl
 
@@ -183,9 +182,9 @@ unfolding filter_sample_of refuses
 sample_refuses bundle curves slot t c mode i sum energy =
     let judged = judge_sample_of bundle curves slot t i sum energy in
     let moved = advance_filter_core_of bundle curves slot t c.filter i sum energy in
-    go judged (taken_of c t.filter_output_count mode moved) (is_done_of judged) refl (taken_refuses c t.filter_output_count mode moved)
+    go judged (taken_of c t.filter_output_count mode moved) (is_ok judged) refl (taken_refuses c t.filter_output_count mode moved)
   where
-    go : (judged : Answer) (x : Sampled) (d : Bool) → is_done_of judged ≡ d → refuses x ≡ true → refuses (cond d x (Refused judged)) ≡ true
+    go : (judged : Answer) (x : Result Sampled Refusal) (d : Bool) → is_ok judged ≡ d → refuses x ≡ true → refuses (cond d x (Err judged)) ≡ true
     go judged x true h r = r
     go judged x false h r = rw h refl
 
@@ -217,7 +216,7 @@ fresh_countable routing mode =
     ) refl
 
 -- every core of a list is whole
-module _ (l : Lent) (s : State) (valid : valid_of s ≡ true) (judged : judge_controls_of l.bundle s ≡ Done) where
+module _ (l : Lent) (s : State) (valid : valid_of s ≡ true) (judged : judge_controls_of l.bundle s ≡ done) where
   pub fresh_invariant : Invariant l (core_of l s)
   fresh_invariant = record { valid = valid; fresh = refl; judged = judged }
 
@@ -226,14 +225,14 @@ module _ (l : Lent) (s : State) (valid : valid_of s ≡ true) (judged : judge_co
   fresh_sound =
       rw (le-leb (effective_cutoff_of s) 2047 (effective_within s), le-leb s.registers.resonance 15 (valid_ranges s valid).resonance) (all_finite l.bundle s judged)
 
-  pub core_judged : judge_core_of (core_of l s) ≡ Done
+  pub core_judged : judge_core_of (core_of l s) ≡ done
   unfolding judge_core_of
   core_judged = rw (valid, fresh_countable s.registers.routing s.registers.mode, fresh_sound) refl
 
   -- ---- a sample: the registers stay, so all that is kept stays
 
   module _ (sum energy : Float) where
-    abbrev sampled : Sampled
+    abbrev sampled : Result Sampled Refusal
     sampled =
         let t = fresh_topology_of s in
         filter_sample_of l.bundle l.curves (summer_slot_of t) t (controls_of l.bundle s) s.registers.mode s.integrator sum energy
@@ -246,12 +245,12 @@ module _ (l : Lent) (s : State) (valid : valid_of s ≡ true) (judged : judge_co
     abbrev Samples : Fed → Plain → Type 0
     Samples r p = (shown (Sample sum energy) r ≡ p) × Invariant l r.core
 
-    after_taken : (x : Sampled) → refuses x ≡ true → finite_taken x ≡ true → Samples (after_of (core_of l s) x) (plain_taken s x)
+    after_taken : (x : Result Sampled Refusal) → refuses x ≡ true → finite_taken x ≡ true → Samples (after_of (core_of l s) x) (plain_taken s x)
     unfolding refuses finite_taken
-    after_taken (Taken o i) r f = (refl, after_invariant i f)
-    after_taken (Refused a) r f = go (is_done_of a) refl r
+    after_taken (Ok (record { outputs = o; state = i })) r f = (refl, after_invariant i f)
+    after_taken (Err a) r f = go (is_ok a) refl r
       where
-        go : (d : Bool) → is_done_of a ≡ d → not d ≡ true → Samples (after_of (core_of l s) (Refused a)) (plain_taken s (Refused a))
+        go : (d : Bool) → is_ok a ≡ d → not d ≡ true → Samples (after_of (core_of l s) (Err a)) (plain_taken s (Err a))
         go true h n = absurd (true≢false (sym n))
         go false h n = rw h (refl, fresh_invariant)
 
@@ -262,9 +261,9 @@ module _ (l : Lent) (s : State) (valid : valid_of s ≡ true) (judged : judge_co
         let t = fresh_topology_of s in
         let reads = judge_reads_of l.bundle l.curves (summer_slot_of t) t s.integrator sum in
         let p = parts l.bundle s judged in
-        rw (p.0, p.1, first_of_done reads) (go (is_done_of (first_of (judge_input_of sum energy) reads)) _ _)
+        rw (p.0, p.1, first_of_done reads) (go (is_ok (first_of (judge_input_of sum energy) reads)) _ _)
       where
-        go : (d : Bool) (answer : Answer) (x : Sampled) → plain_taken s (cond d x (Refused answer)) ≡ cond d (plain_taken s x) (refused_at s answer)
+        go : (d : Bool) (answer : Answer) (x : Result Sampled Refusal) → plain_taken s (cond d x (Err answer)) ≡ cond d (plain_taken s x) (refused_at s answer)
         go true answer x = refl
         go false answer x = refl
 
@@ -290,11 +289,11 @@ module _ (l : Lent) where
       subst (λ (c : Core). Steps l c (Sample sum energy) (feed_event_of l c (Sample sum energy))) (sym kept.fresh) (sample_steps l k.state kept.valid kept.judged sum energy)
   event_steps k Reset kept = reset_changes l k kept
 
-module _ (l : Lent) (ready : judge_lent_of l ≡ Done) (decayed : judge_decays_of l.decays ≡ Done) where
+module _ (l : Lent) (ready : judge_lent_of l ≡ done) (decayed : judge_decays_of l.decays ≡ done) where
   pub steps : (k : Core) (e : Event) → Invariant l k → Steps l k e (feed_of l k e)
   unfolding feed_of
   steps k e kept =
-      let whole : judge_core_of k ≡ Done = rw kept.fresh (core_judged l k.state kept.valid kept.judged) in
+      let whole : judge_core_of k ≡ done = rw kept.fresh (core_judged l k.state kept.valid kept.judged) in
       rw (ready, whole, decayed) (event_steps l k e kept)
 
   -- ---- any list of events
@@ -317,12 +316,12 @@ module _ (l : Lent) (ready : judge_lent_of l ≡ Done) (decayed : judge_decays_o
 
 -- ---- the start
 
-module _ (l : Lent) (s : State) (started : plain_start l s ≡ Done) where
+module _ (l : Lent) (s : State) (started : plain_start l s ≡ done) where
   pub record Starts : Type 0 where
-    pub ready : judge_lent_of l ≡ Done
+    pub ready : judge_lent_of l ≡ done
     pub valid : valid_of s ≡ true
-    pub decayed : judge_decays_of l.decays ≡ Done
-    pub judged : judge_controls_of l.bundle s ≡ Done
+    pub decayed : judge_decays_of l.decays ≡ done
+    pub judged : judge_controls_of l.bundle s ≡ done
 
   pub start_parts : Starts
   unfolding plain_start
@@ -342,7 +341,7 @@ module _ (l : Lent) (s : State) (started : plain_start l s ≡ Done) where
 -- ---- the methods
 
 -- A method called by its own name, and not through `feed`, gives the same where what is lent is right. So the theorem speaks of every method.
-module _ (l : Lent) (k : Core) (ready : judge_lent_of l ≡ Done) (decayed : judge_decays_of l.decays ≡ Done) where
+module _ (l : Lent) (k : Core) (ready : judge_lent_of l ≡ done) (decayed : judge_decays_of l.decays ≡ done) where
   change_is_event : (e : Event) → is_sample e ≡ false → quiet_of (change_of l.bundle k e) ≡ feed_event_of l k e
   change_is_event (CutoffLow v) h = refl
   change_is_event (CutoffHigh v) h = refl
@@ -351,7 +350,7 @@ module _ (l : Lent) (k : Core) (ready : judge_lent_of l ≡ Done) (decayed : jud
   change_is_event (Sample sum energy) h = absurd (true≢false h)
   change_is_event Reset h = refl
 
-  feed_is : (e : Event) → feed_of l k e ≡ cond (is_done_of (judge_core_of k)) (feed_event_of l k e) (quiet_of (record { answer = judge_core_of k; core = k }))
+  feed_is : (e : Event) → feed_of l k e ≡ cond (is_ok (judge_core_of k)) (feed_event_of l k e) (quiet_of (record { answer = judge_core_of k; core = k }))
   unfolding feed_of
   feed_is e = rw (ready, decayed, first_of_done (judge_core_of k)) refl
 
@@ -359,7 +358,7 @@ module _ (l : Lent) (k : Core) (ready : judge_lent_of l ≡ Done) (decayed : jud
   unfolding core_write_of judge_tables_of
   method_is_feed e other =
       let opened = (first_done (check_of l.bundle) (judge_length_of l.curves) ready).0 in
-      rw (feed_is e, opened) (go (is_done_of (judge_core_of k)))
+      rw (feed_is e, opened) (go (is_ok (judge_core_of k)))
     where
       go : (d : Bool) → quiet_of (cond d (change_of l.bundle k e) (record { answer = judge_core_of k; core = k }))
           ≡ cond d (feed_event_of l k e) (quiet_of (record { answer = judge_core_of k; core = k }))
@@ -375,8 +374,8 @@ module _ (l : Lent) (k : Core) (ready : judge_lent_of l ≡ Done) (decayed : jud
 -- sample, state and refusal of the list is the plain machine's, and after each event all that is kept equals what is worked out afresh from the state.
 pub record Demand3 (l : Lent) (s : State) (es : List Event) : Type 0 where
   pub start : (core_start_of l s).answer ≡ plain_start l s
-  pub same : plain_start l s ≡ Done → shown_all es (core_trace l (core_start_of l s).core es) ≡ plain_trace l s es
-  pub fresh : plain_start l s ≡ Done → AllFresh l (core_trace l (core_start_of l s).core es)
+  pub same : plain_start l s ≡ done → shown_all es (core_trace l (core_start_of l s).core es) ≡ plain_trace l s es
+  pub fresh : plain_start l s ≡ done → AllFresh l (core_trace l (core_start_of l s).core es)
 
 pub demand_3 : (l : Lent) (s : State) (es : List Event) → Demand3 l s es
 demand_3 l s es = record { start = refl; same = λ h. (start_agrees l s h es).same; fresh = λ h. (start_agrees l s h es).fresh }

@@ -4,10 +4,8 @@ use mathlib.Core.Path.{◌≡◌, refl, sym, ap, ◌∙◌}
 use mathlib.Core.Bool.{Bool, true, false, cond}
 use mathlib.Core.List.{List}
 use lib.Ieee.{Float}
-use Rattle.answers.specs.declared.Answer.{Answer}
-use Rattle.answers.specs.declared.Answer.TheVariants.{Domain}
-use Rattle.answers.specs.Answers.{is_done_of, first_of, unless_of}
-use Rattle.bundle.specs.declared.Read.{Read}
+use Rattle.answers.specs.declared.Refusal.TheVariants.{Domain}
+use Rattle.answers.specs.Answers.{first_of, unless_of, Answer}
 use Rattle.bundle.specs.Reading.{read_of}
 use Rattle.mixing.specs.declared.MixingTopology.{MixingTopology}
 use Rattle.transients.specs.Transients.{finite_charges_of}
@@ -28,16 +26,18 @@ use Rattle.filter.specs.declared.Written.{Written}
 use Rattle.filter.specs.declared.Fed.{Fed}
 use Rattle.filter.specs.Lent.{lent_of, lent_all, judge_lent_of}
 use Rattle.filter.specs.Core.{judge_core_of, settled_of, quiet_of, refreshed_of, reselected_of, take_of, feed_event_of, judge_take_of, judge_feed_of}
+use Rattle.std.specs.Prelude.{Err, is_ok, Result, Float}
+use Rattle.answers.specs.declared.Refusal.{Refusal}
 
 module _ (bundle : List ℕ) (k : Core) (s : State) (t : MixingTopology) where
   -- what a refusal has in place of the controls is not handed back
   pub settle_refreshed : {f : Refreshed} → f ≡ refresh_of bundle s → {w : Written} → w ≡ settled_of f.answer k (record { state = s; topology = t; controls = f.controls })
       → w ≡ refreshed_of bundle k s t
   unfolding refreshed_of
-  settle_refreshed is w_is = w_is ∙ rw is (go (is_done_of (judge_controls_of bundle s)) refl)
+  settle_refreshed is w_is = w_is ∙ rw is (go (is_ok (judge_controls_of bundle s)) refl)
     where
-      go : (d : Bool) → is_done_of (judge_controls_of bundle s) ≡ d
-          → settled_of (judge_controls_of bundle s) k (record { state = s; topology = t; controls = cond (is_done_of (judge_controls_of bundle s)) (controls_of bundle s) no_controls })
+      go : (d : Bool) → is_ok (judge_controls_of bundle s) ≡ d
+          → settled_of (judge_controls_of bundle s) k (record { state = s; topology = t; controls = cond (is_ok (judge_controls_of bundle s)) (controls_of bundle s) no_controls })
           ≡ settled_of (judge_controls_of bundle s) k (record { state = s; topology = t; controls = controls_of bundle s })
       go true h = rw h refl
       go false h = rw h refl
@@ -45,7 +45,7 @@ module _ (bundle : List ℕ) (k : Core) (s : State) (t : MixingTopology) where
   abbrev gained : Float → ControlCache
   gained x = record { filter = k.controls.filter; mode_output_gain = x; output = refresh_register_output_state_of s.registers }
 
-  pub settle_reselected : {e : ℕ} → e ≡ effective_cutoff_of s → {g : Read} → g ≡ read_mode_output_gain_of bundle s.registers e
+  pub settle_reselected : {e : ℕ} → e ≡ effective_cutoff_of s → {g : Result Float Refusal} → g ≡ read_mode_output_gain_of bundle s.registers e
       → {o : OutputControls} → o ≡ refresh_register_output_state_of s.registers → {v : Float} → v ≡ gain_value_of g
       → {f : Bool} → f ≡ finite_charges_of s.transients → {u : Answer} → u ≡ unless_of f Domain → {a : Answer} → a ≡ gain_answer_of g → {j : Answer} → j ≡ first_of a u
       → {w : Written} → w ≡ settled_of j k (record { state = s; topology = t; controls = record { filter = k.controls.filter; mode_output_gain = v; output = o } })
@@ -55,9 +55,9 @@ module _ (bundle : List ℕ) (k : Core) (s : State) (t : MixingTopology) where
       let judged = judge_gain_of bundle s.registers (effective_cutoff_of s) in
       let gain = refresh_mode_output_gain_of bundle s.registers (effective_cutoff_of s) in
       let charged = unless_of (finite_charges_of s.transients) Domain in
-      w_is ∙ rw (j_is, a_is, u_is, f_is, v_is, o_is, g_is, e_is, gain_answer judged gain) (go judged gain charged (is_done_of judged) refl)
+      w_is ∙ rw (j_is, a_is, u_is, f_is, v_is, o_is, g_is, e_is, gain_answer judged gain) (go judged gain charged (is_ok judged) refl)
     where
-      go : (judged : Answer) (gain : Float) (charged : Answer) (d : Bool) → is_done_of judged ≡ d
+      go : (judged : Answer) (gain : Float) (charged : Answer) (d : Bool) → is_ok judged ≡ d
           → settled_of (first_of judged charged) k (record { state = s; topology = t; controls = gained (gain_value_of (read_of judged gain)) })
           ≡ settled_of (first_of judged charged) k (record { state = s; topology = t; controls = gained gain })
       go judged gain charged true h = rw (gain_value judged gain h) refl
@@ -72,12 +72,12 @@ module _ (bundle curves decays : List ℕ) (k : Core) {a b j : Answer} (a_is : a
   feed_judged d_is f_is = f_is ∙ rw (take_judged, d_is) refl
 
 -- an event, or what a call answers that is refused before it
-module _ (k : Core) (event : Fed) (judged : Answer) {j : Answer} (j_is : j ≡ judged) {d : Bool} (d_is : d ≡ is_done_of j) where
+module _ (k : Core) (event : Fed) (judged : Answer) {j : Answer} (j_is : j ≡ judged) {d : Bool} (d_is : d ≡ is_ok j) where
   abbrev guarded_fed : Fed
-  guarded_fed = cond (is_done_of judged) event (quiet_of (record { answer = judged; core = k }))
+  guarded_fed = cond (is_ok judged) event (quiet_of (record { answer = judged; core = k }))
 
-  told : (b : Bool) → d ≡ b → is_done_of judged ≡ b
-  told b h = ap is_done_of (sym j_is) ∙ sym d_is ∙ h
+  told : (b : Bool) → d ≡ b → is_ok judged ≡ b
+  told b h = ap is_ok (sym j_is) ∙ sym d_is ∙ h
 
   pub fed_goes : d ≡ true → {r : Fed} → r ≡ event → r ≡ guarded_fed
   fed_goes h r_is = rw (told true h) r_is

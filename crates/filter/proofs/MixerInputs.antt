@@ -4,7 +4,7 @@ use mathlib.Core.Path.{◌≡◌, refl, sym, ap, subst}
 use mathlib.Core.Bool.{and-false}
 use mathlib.Core.List.{List, [], ◌∷◌}
 use borrow.Author.Tests.{lt-leb}
-use Rattle.answers.specs.declared.Answer.TheVariants.{Done, Argument}
+use Rattle.answers.specs.declared.Refusal.TheVariants.{Argument}
 use Rattle.mixing.specs.Topology.{topology_of}
 use Rattle.mixing.proofs.Facts.{mixer_most}
 use Rattle.bundle.specs.Opening.{check_of}
@@ -18,6 +18,8 @@ use Rattle.filter.specs.Core.{fresh_topology_of, judge_core_of, quiet_of, core_s
 use Rattle.filter.specs.Plain.{plain_start}
 use Rattle.filter.specs.Lists.{core_trace, AllFresh}
 use Rattle.filter.proofs.Demand3.{demand_3}
+use Rattle.answers.specs.Answers.{done}
+use Rattle.std.specs.Prelude.{Err}
 
 abbrev pub inputs_of : Core → ℕ
 inputs_of k = k.topology.mixer_input_count
@@ -37,7 +39,7 @@ fresh_most l [] h = tt
 fresh_most l (r ∷ rs) h = (subst (λ (n : ℕ). n ≤ 7) (sym (ap inputs_of h.0)) (state_most r.core.state), fresh_most l rs h.1)
 
 -- after each event of any list
-pub list_most : (l : Lent) (s : State) (es : List Event) → plain_start l s ≡ Done → AllMost (core_trace l (core_start_of l s).core es)
+pub list_most : (l : Lent) (s : State) (es : List Event) → plain_start l s ≡ done → AllMost (core_trace l (core_start_of l s).core es)
 list_most l s es started = fresh_most l (core_trace l (core_start_of l s).core es) ((demand_3 l s es).fresh started)
 
 -- ---- what is handed in: 10, whatever the event, and the core is handed back
@@ -47,10 +49,10 @@ module _ (k : Core) (above : 7 < inputs_of k) where
   unfolding judge_core_of
   judged_above = simp (lt-leb (inputs_of k) 7 above, and-false)
 
-  pub feed_above : (l : Lent) (e : Event) → judge_lent_of l ≡ Done → feed_of l k e ≡ quiet_of (record { answer = Argument; core = k })
+  pub feed_above : (l : Lent) (e : Event) → judge_lent_of l ≡ done → feed_of l k e ≡ quiet_of (record { answer = Argument; core = k })
   unfolding feed_of
   feed_above l e ready = rw (ready, judged_above) refl
 
-  pub write_above : (bundle : List ℕ) (e : Event) → check_of bundle ≡ Done → ◌≡◌ {A = Written} (core_write_of bundle k e) (record { answer = Argument; core = k })
+  pub write_above : (bundle : List ℕ) (e : Event) → check_of bundle ≡ done → ◌≡◌ {A = Written} (core_write_of bundle k e) (record { answer = Argument; core = k })
   unfolding core_write_of
   write_above bundle e opened = rw (opened, judged_above) refl

@@ -1,10 +1,9 @@
 -- The core and its calls (filter.rs): the state with what is kept of it. A write alters what the Rust's write alters and takes all else as it
 -- is handed in; a refused call hands back the core that it took.
-use Rattle.std.specs.Prelude.{ℕ, Bool, cond, ◌&&◌, List, leb, Float}
+use Rattle.std.specs.Prelude.{ℕ, Bool, cond, ◌&&◌, List, leb, Float, Err, is_ok, Result, Ok}
 use Rattle.std.specs.Float.Ieee.Scale.{finite}
-use Rattle.answers.specs.declared.Answer.{Answer}
-use Rattle.answers.specs.declared.Answer.TheVariants.{Done, Domain, Argument}
-use Rattle.answers.specs.Answers.{first_of, unless_of, is_done_of}
+use Rattle.answers.specs.declared.Refusal.TheVariants.{Domain, Argument}
+use Rattle.answers.specs.Answers.{first_of, unless_of, Answer, done}
 use Rattle.floats.specs.Arithmetic.{f32}
 use Rattle.integrator.specs.declared.IntegratorState.{IntegratorState}
 use Rattle.mixing.specs.declared.MixingTopology.{MixingTopology}
@@ -21,7 +20,6 @@ use Rattle.controls.specs.Judging.{judge_controls_of, finite_controls_of}
 use Rattle.refresh.specs.Refresh.{judge_gain_of, refresh_of}
 use Rattle.sample.specs.declared.Outputs.{Outputs}
 use Rattle.sample.specs.declared.Sampled.{Sampled}
-use Rattle.sample.specs.declared.Sampled.TheVariants.{Taken, Refused}
 use Rattle.sample.specs.Sample.{summer_slot_of, filter_sample_of}
 use Rattle.script.specs.declared.Event.{Event}
 use Rattle.script.specs.declared.Event.TheVariants.{CutoffLow, CutoffHigh, Routing, Mode, Sample, Reset}
@@ -30,6 +28,7 @@ use Rattle.filter.specs.declared.Written.{Written}
 use Rattle.filter.specs.declared.Fed.{Fed}
 use Rattle.filter.specs.Lent.{Lent, judge_lent_of}
 use Rattle.filter.specs.Plain.{plain_start}
+use Rattle.answers.specs.declared.Refusal.{Refusal}
 
 -- ---- all that is kept, worked out afresh from a state: `update`, then the three refresh calls
 
@@ -61,10 +60,10 @@ judge_core_of k = unless_of (valid_of k.state && countable_of k.topology && soun
 
 -- the next core, or the one that was taken
 abbrev pub settled_of : Answer → Core → Core → Written
-settled_of answer old new = record { answer = answer; core = cond (is_done_of answer) new old }
+settled_of answer old new = record { answer = answer; core = cond (is_ok answer) new old }
 
 abbrev pub guarded_of : Answer → Core → Written → Written
-guarded_of answer old written = cond (is_done_of answer) written (record { answer = answer; core = old })
+guarded_of answer old written = cond (is_ok answer) written (record { answer = answer; core = old })
 
 abbrev pub no_outputs : Outputs
 no_outputs = record { high = f32 0; band = f32 0; low = f32 0; selected = f32 0 }
@@ -75,9 +74,9 @@ quiet_of w = record { answer = w.answer; outputs = no_outputs; core = w.core }
 abbrev pub with_integrator : State → IntegratorState → State
 with_integrator s i = record { registers = s.registers; integrator = i; transients = s.transients }
 
-abbrev pub after_of : Core → Sampled → Fed
-after_of k (Taken outputs i) = record { answer = Done; outputs = outputs; core = record { state = with_integrator k.state i; topology = k.topology; controls = k.controls } }
-after_of k (Refused answer) = record { answer = answer; outputs = no_outputs; core = k }
+abbrev pub after_of : Core → Result Sampled Refusal → Fed
+after_of k (Ok (record { outputs = outputs; state = i })) = record { answer = done; outputs = outputs; core = record { state = with_integrator k.state i; topology = k.topology; controls = k.controls } }
+after_of k (Err answer) = record { answer = answer; outputs = no_outputs; core = k }
 
 -- ---- the start: the core of a state; where it is refused, no list starts from what it hands back
 
@@ -105,7 +104,7 @@ change_of bundle k (CutoffLow value) = refreshed_of bundle k (write_cutoff_low_o
 change_of bundle k (CutoffHigh value) = refreshed_of bundle k (write_cutoff_high_of k.state value) k.topology
 change_of bundle k (Routing value) = let s = write_signal_routing_of k.state value in refreshed_of bundle k s (fresh_topology_of s)
 change_of bundle k (Mode value) = let s = write_mode_and_volume_of k.state value in reselected_of bundle k s (fresh_topology_of s)
-change_of bundle k (Sample sum energy) = record { answer = Done; core = k }
+change_of bundle k (Sample sum energy) = record { answer = done; core = k }
 change_of bundle k Reset = refreshed_of bundle k starting_state (fresh_topology_of starting_state)
 
 -- the topology and the controls as they are handed in
@@ -134,10 +133,10 @@ abbrev pub judge_take_of : Lent → Core → Answer
 judge_take_of l k = first_of (judge_lent_of l) (judge_core_of k)
 
 unfoldable pub core_sample_of : Lent → Core → Float → Float → Fed
-core_sample_of l k sum energy = cond (is_done_of (judge_take_of l k)) (take_of l k sum energy) (quiet_of (record { answer = judge_take_of l k; core = k }))
+core_sample_of l k sum energy = cond (is_ok (judge_take_of l k)) (take_of l k sum energy) (quiet_of (record { answer = judge_take_of l k; core = k }))
 
 abbrev pub judge_feed_of : Lent → Core → Answer
 judge_feed_of l k = first_of (judge_take_of l k) (judge_decays_of l.decays)
 
 unfoldable pub feed_of : Lent → Core → Event → Fed
-feed_of l k e = cond (is_done_of (judge_feed_of l k)) (feed_event_of l k e) (quiet_of (record { answer = judge_feed_of l k; core = k }))
+feed_of l k e = cond (is_ok (judge_feed_of l k)) (feed_event_of l k e) (quiet_of (record { answer = judge_feed_of l k; core = k }))

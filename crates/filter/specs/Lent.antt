@@ -1,7 +1,6 @@
 -- What is lent to the machine to be read, the same in every event.
 use Rattle.std.specs.Prelude.{ℕ, List, []}
-use Rattle.answers.specs.declared.Answer.{Answer}
-use Rattle.answers.specs.Answers.{first_of}
+use Rattle.answers.specs.Answers.{first_of, Answer}
 use Rattle.bundle.specs.Opening.{check_of}
 use Rattle.curves.specs.Building.{judge_length_of}
 

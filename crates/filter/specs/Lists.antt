@@ -1,6 +1,5 @@
 -- A list of events through the core's calls, each given the core that the last one handed back.
-use Rattle.std.specs.Prelude.{◌≡◌, Bool, true, false, cond, ◌&&◌, List, [], ◌∷◌}
-use Rattle.answers.specs.Answers.{is_done_of}
+use Rattle.std.specs.Prelude.{◌≡◌, Bool, true, false, cond, ◌&&◌, List, [], ◌∷◌, is_ok}
 use Rattle.script.specs.declared.Event.{Event}
 use Rattle.script.specs.declared.Event.TheVariants.{CutoffLow, CutoffHigh, Routing, Mode, Sample, Reset}
 use Rattle.filter.specs.declared.Core.{Core}
@@ -24,7 +23,7 @@ is_sample (Sample sum energy) = true
 is_sample Reset = false
 
 abbrev pub shown : Event → Fed → Plain
-shown e r = record { answer = r.answer; sample = cond (is_sample e && is_done_of r.answer) (r.outputs ∷ []) []; state = r.core.state }
+shown e r = record { answer = r.answer; sample = cond (is_sample e && is_ok r.answer) (r.outputs ∷ []) []; state = r.core.state }
 
 unfoldable pub shown_all : List Event → List Fed → List Plain
 shown_all [] rs = []

@@ -1,9 +1,8 @@
 -- The plain machine: it holds a valid state and nothing more, and is fed events and what is lent. At the start, and in each event after its fields change, topology and
 -- controls are worked out afresh.
-use Rattle.std.specs.Prelude.{ℕ, cond, List, [], ◌∷◌, Float}
-use Rattle.answers.specs.declared.Answer.{Answer}
-use Rattle.answers.specs.declared.Answer.TheVariants.{Done, Domain, Argument}
-use Rattle.answers.specs.Answers.{first_of, unless_of, is_done_of}
+use Rattle.std.specs.Prelude.{ℕ, cond, List, [], ◌∷◌, Float, Err, is_ok, Result, Ok}
+use Rattle.answers.specs.declared.Refusal.TheVariants.{Domain, Argument}
+use Rattle.answers.specs.Answers.{first_of, unless_of, Answer, done}
 use Rattle.mixing.specs.Topology.{topology_of}
 use Rattle.transients.specs.Transients.{finite_transients_of}
 use Rattle.transients.specs.Block.{judge_decays_of}
@@ -14,11 +13,11 @@ use Rattle.controls.specs.Controls.{controls_of}
 use Rattle.controls.specs.Judging.{judge_entries_of, judge_domain_of, judge_controls_of}
 use Rattle.sample.specs.declared.Outputs.{Outputs}
 use Rattle.sample.specs.declared.Sampled.{Sampled}
-use Rattle.sample.specs.declared.Sampled.TheVariants.{Taken, Refused}
 use Rattle.sample.specs.Sample.{summer_slot_of, judge_input_of, judge_reads_of, advance_filter_core_of, taken_of}
 use Rattle.script.specs.declared.Event.{Event}
 use Rattle.script.specs.declared.Event.TheVariants.{CutoffLow, CutoffHigh, Routing, Mode, Sample, Reset}
 use Rattle.filter.specs.Lent.{Lent, judge_lent_of}
+use Rattle.answers.specs.declared.Refusal.{Refusal}
 
 -- What an event gives: the answer (number, buffer and place), the sample if one was taken, and the state after it.
 pub record Plain : Type 0 where
@@ -42,12 +41,12 @@ judge_change_of bundle t = first_of (judge_controls_of bundle t) (unless_of (fin
 abbrev pub plain_change : Lent → State → State → Plain
 plain_change l s t =
     let judged = judge_change_of l.bundle t in
-    cond (is_done_of judged) (record { answer = Done; sample = []; state = t }) (refused_at s judged)
+    cond (is_ok judged) (record { answer = done; sample = []; state = t }) (refused_at s judged)
 
 -- A sample that was taken gives the outputs and new floats; one that left the domain, 6.
-abbrev pub plain_taken : State → Sampled → Plain
-plain_taken s (Taken outputs i) = record { answer = Done; sample = outputs ∷ []; state = record { registers = s.registers; integrator = i; transients = s.transients } }
-plain_taken s (Refused answer) = refused_at s answer
+abbrev pub plain_taken : State → Result Sampled Refusal → Plain
+plain_taken s (Ok (record { outputs = outputs; state = i })) = record { answer = done; sample = outputs ∷ []; state = record { registers = s.registers; integrator = i; transients = s.transients } }
+plain_taken s (Err answer) = refused_at s answer
 
 -- A sample: 5, then every 3, of the controls and of the sample, then 6 of the controls; and last its own 6.
 abbrev pub judge_plain : Lent → State → Float → Float → Answer
@@ -59,7 +58,7 @@ judge_plain l s sum energy =
     (judge_domain_of l.bundle s)))
 
 -- It takes the block's floats and the event's, with topology and controls worked out afresh.
-abbrev pub plain_sampled : Lent → State → Float → Float → Sampled
+abbrev pub plain_sampled : Lent → State → Float → Float → Result Sampled Refusal
 plain_sampled l s sum energy =
     let topology = topology_of s.registers.routing s.registers.mode in
     let controls = controls_of l.bundle s in
@@ -69,7 +68,7 @@ plain_sampled l s sum energy =
 unfoldable pub plain_sample : Lent → State → Float → Float → Plain
 plain_sample l s sum energy =
     let judged = judge_plain l s sum energy in
-    cond (is_done_of judged) (plain_taken s (plain_sampled l s sum energy)) (refused_at s judged)
+    cond (is_ok judged) (plain_taken s (plain_sampled l s sum energy)) (refused_at s judged)
 
 abbrev pub plain_step : Lent → State → Event → Plain
 plain_step l s (CutoffLow value) = plain_change l s (write_cutoff_low_of s value)

@@ -80,7 +80,7 @@ pub fn fresh_topology(state: State) -> MixingTopology
 fn settled(answer: Answer, old: Core, new: Core) -> Written
     ensures { result ≡ F.settled_of answer old new }
 {
-    if answers::is_done(answer) {
+    if answer.is_ok() {
         return Written { answer, core: new };
     }
     Written { answer, core: old }
@@ -89,7 +89,7 @@ fn settled(answer: Answer, old: Core, new: Core) -> Written
 fn guarded(answer: Answer, taken: Core, written: Written) -> Written
     ensures { result ≡ F.guarded_of answer taken written }
 {
-    if answers::is_done(answer) {
+    if answer.is_ok() {
         return written;
     }
     Written {
@@ -126,7 +126,7 @@ fn after(before: Core, sampled: Sampled) -> Fed
             next.integrator = state;
             core.state = next;
             Fed {
-                answer: Answer::Done,
+                answer: Ok(()),
                 outputs,
                 core,
             }
@@ -146,7 +146,7 @@ impl Core {
         let fresh = refresh::refresh(bundle, state);
         let refreshed = fresh.answer;
         let controls = fresh.controls;
-        let valid = answers::unless(state.is_valid(), Answer::Argument);
+        let valid = answers::unless(state.is_valid(), Refusal::Argument);
         let decayed = answers::first(transients::judge_decays(decays), refreshed);
         let judged = answers::first(valid, decayed);
         Written {
@@ -167,7 +167,7 @@ impl Core {
         let topology = self.topology;
         let controls = self.controls;
         let whole = state.is_valid() & countable(topology) & sound(controls);
-        answers::unless(whole, Answer::Argument)
+        answers::unless(whole, Refusal::Argument)
     }
 
     // The next core of a state and a topology, with every control worked out afresh. Refuses 3, 6.
@@ -200,7 +200,7 @@ impl Core {
         let output = controls::refresh_register_output_state(registers);
         controls.mode_output_gain = refresh::gain_value(gain);
         controls.output = output;
-        let charged = answers::unless(transients.finite_charges(), Answer::Domain);
+        let charged = answers::unless(transients.finite_charges(), Refusal::Domain);
         settled(
             answers::first(refresh::gain_answer(gain), charged),
             self,
@@ -237,7 +237,7 @@ impl Core {
                 input_sum: _sum,
                 source_energy: _energy,
             } => Written {
-                answer: Answer::Done,
+                answer: Ok(()),
                 core: self,
             },
             Event::Reset => {
@@ -334,7 +334,7 @@ impl Core {
         ensures { result ≡ F.core_sample_of (lent_of bundle.now curves.now) self input_sum source_energy }
     {
         let judged = answers::first(judge_lent(bundle, curves), self.judge());
-        if answers::is_done(judged) {
+        if judged.is_ok() {
             return self.take(bundle, curves, input_sum, source_energy);
         }
         quiet(Written {
@@ -349,7 +349,7 @@ impl Core {
     {
         let known = answers::first(judge_lent(bundle, curves), self.judge());
         let judged = answers::first(known, transients::judge_decays(decays));
-        if answers::is_done(judged) {
+        if judged.is_ok() {
             return self.feed_event(bundle, curves, event);
         }
         quiet(Written {

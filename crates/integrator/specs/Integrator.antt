@@ -1,12 +1,10 @@
 -- integrator.rs, operation by operation: the nonlinear state-variable integrator.
-use Rattle.std.specs.Prelude.{Bool, cond, ◌&&◌, Float}
+use Rattle.std.specs.Prelude.{Bool, cond, ◌&&◌, Float, Option, Some, None}
 use Rattle.std.specs.Float.Ieee.Scale.{finite}
 use Rattle.floats.specs.Arithmetic.{◌⊕◌, ◌⊖◌, ◌⊗◌, ◌⊘◌, f32}
 use Rattle.integrator.specs.declared.IntegratorState.{IntegratorState}
 use Rattle.integrator.specs.declared.Coefficients.{Coefficients}
 use Rattle.integrator.specs.declared.Advanced.{Advanced}
-use Rattle.integrator.specs.declared.Substeps.{Substeps}
-use Rattle.integrator.specs.declared.Substeps.TheVariants.{Settled, NotFinite}
 
 -- `IntegratorState::saturate`: value * (27.0 + square) / (27.0 + 9.0 * square)
 unfoldable pub saturate_of : Float → Float → Float
@@ -48,18 +46,18 @@ unfoldable pub in_domain : Advanced → Bool
 in_domain a = state_finite a.state && high_finite a && finite a.outputs.band_pass && finite a.outputs.low_pass
 
 -- one substep, and whether it stayed in the domain
-unfoldable pub substep_of : IntegratorState → Float → Coefficients → Substeps
+unfoldable pub substep_of : IntegratorState → Float → Coefficients → Option Advanced
 substep_of s driven_input k =
     let a = advance_of s driven_input k in
-    cond (in_domain a) (Settled a) NotFinite
+    cond (in_domain a) (Some a) None
 
 -- a further one, where the last one stayed
-unfoldable pub then_of : Substeps → Float → Coefficients → Substeps
-then_of (Settled a) driven_input k = substep_of a.state driven_input k
-then_of NotFinite driven_input k = NotFinite
+unfoldable pub then_of : Option Advanced → Float → Coefficients → Option Advanced
+then_of (Some a) driven_input k = substep_of a.state driven_input k
+then_of None driven_input k = None
 
 -- FILTER_SUBSTEPS is 4
-unfoldable pub four_substeps_of : IntegratorState → Float → Coefficients → Substeps
+unfoldable pub four_substeps_of : IntegratorState → Float → Coefficients → Option Advanced
 four_substeps_of s driven_input k =
-    let next : Substeps → Substeps = λ b. then_of b driven_input k in
+    let next : Option Advanced → Option Advanced = λ b. then_of b driven_input k in
     next (next (next (substep_of s driven_input k)))

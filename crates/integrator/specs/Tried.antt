@@ -1,13 +1,11 @@
 -- The substeps as `four_substeps` looks at them: of a substep's state band's number alone, which is there before low is worked out, and of its outputs high;
 -- after the last one low's state too. Laws.antt of proofs/ shows that it comes to `four_substeps_of`, so a reader of a promise needs none of it.
-use Rattle.std.specs.Prelude.{cond, Float}
+use Rattle.std.specs.Prelude.{cond, Float, Option, Some, None}
 use Rattle.std.specs.Float.Ieee.Scale.{finite}
 use Rattle.floats.specs.Arithmetic.{◌⊖◌, ◌⊗◌, f32}
 use Rattle.integrator.specs.declared.IntegratorState.{IntegratorState}
 use Rattle.integrator.specs.declared.Coefficients.{Coefficients}
 use Rattle.integrator.specs.declared.Advanced.{Advanced}
-use Rattle.integrator.specs.declared.Substeps.{Substeps}
-use Rattle.integrator.specs.declared.Substeps.TheVariants.{Settled, NotFinite}
 use Rattle.integrator.specs.Integrator.{advance_of, high_finite}
 
 -- what `advance_of` makes of band and low
@@ -24,15 +22,15 @@ concluded_of s effective_input damping band low =
           };
     }
 
-unfoldable pub tried_of : IntegratorState → Float → Coefficients → Substeps
+unfoldable pub tried_of : IntegratorState → Float → Coefficients → Option Advanced
 tried_of s driven_input k =
     let a = advance_of s driven_input k in
-    cond (finite a.state.band_state) (cond (high_finite a) (Settled a) NotFinite) NotFinite
+    cond (finite a.state.band_state) (cond (high_finite a) (Some a) None) None
 
-unfoldable pub tried_after_of : Substeps → Float → Coefficients → Substeps
-tried_after_of (Settled a) driven_input k = tried_of a.state driven_input k
-tried_after_of NotFinite driven_input k = NotFinite
+unfoldable pub tried_after_of : Option Advanced → Float → Coefficients → Option Advanced
+tried_after_of (Some a) driven_input k = tried_of a.state driven_input k
+tried_after_of None driven_input k = None
 
-unfoldable pub with_finite_low_of : Substeps → Substeps
-with_finite_low_of (Settled a) = cond (finite a.state.low_state) (Settled a) NotFinite
-with_finite_low_of NotFinite = NotFinite
+unfoldable pub with_finite_low_of : Option Advanced → Option Advanced
+with_finite_low_of (Some a) = cond (finite a.state.low_state) (Some a) None
+with_finite_low_of None = None

@@ -5,7 +5,7 @@
 ghost use Rattle.std.specs.Prelude.{◌≡◌};
 ghost use Rattle.floats.specs.Arithmetic.{◌⊕◌, ◌⊖◌, ◌⊗◌, f32};
 ghost use Rattle.integrator.specs.Integrator.{saturate_of, advance_of, four_substeps_of};
-ghost use Rattle.integrator.specs.Tried.{concluded_of, tried_of, tried_after_of, with_finite_low_of};
+ghost use Rattle.integrator.specs.Tried.{concluded_of, tried_of};
 
 #[repr(C)]
 #[derive(Clone, Copy)]
@@ -41,13 +41,6 @@ pub struct Coefficients {
 pub struct Advanced {
     pub outputs: FilterOutputs,
     pub state: IntegratorState,
-}
-
-// Where substeps ended: in the finite domain, or at the first that left it.
-#[derive(Clone, Copy)]
-pub enum Substeps {
-    Settled(Advanced),
-    NotFinite,
 }
 
 impl IntegratorState {
@@ -117,66 +110,35 @@ impl IntegratorState {
         self.concluded(effective_input, k.damping, band, low)
     }
 
-    // The same, and whether band's next state and the high output are finite. The test between band and low keeps the compiler from pairing the two in one
+    // The same, where band's next state and the high output are finite. The test between band and low keeps the compiler from pairing the two in one
     // vector, whose shuffles would stand on the chain of the substeps.
-    fn tried(self, driven_input: f32, k: Coefficients) -> Substeps
+    fn tried(self, driven_input: f32, k: Coefficients) -> Option<Advanced>
         ensures { result ≡ tried_of self driven_input k }
     {
         let effective_input = self.effective_input(driven_input, k);
         let residual = effective_input - self.low_state;
         let band = self.band_output(residual, k);
-        if floats::is_finite(IntegratorState::trapezoidal(band, self.band_state)) {
-            let low = self.low_output(residual, k);
-            let advanced = self.concluded(effective_input, k.damping, band, low);
-            let outputs = advanced.outputs;
-            if floats::is_finite(outputs.high_pass) {
-                return Substeps::Settled(advanced);
-            }
+        if !floats::is_finite(IntegratorState::trapezoidal(band, self.band_state)) {
+            return None;
         }
-        Substeps::NotFinite
+        let low = self.low_output(residual, k);
+        let advanced = self.concluded(effective_input, k.damping, band, low);
+        floats::is_finite(advanced.outputs.high_pass).then_some(advanced)
     }
 
-    // The four substeps of one sample, with the same input and coefficients, and whether the state and the outputs stayed finite in each. Low's state is finite
+    // The four substeps of one sample, with the same input and coefficients, where the state and the outputs stayed finite in each. Low's state is finite
     // where the next one is, so that the last alone is looked at; the energy stays what it is.
-    pub fn four_substeps(self, driven_input: f32, k: Coefficients) -> Substeps
+    pub fn four_substeps(self, driven_input: f32, k: Coefficients) -> Option<Advanced>
         ensures { result ≡ four_substeps_of self driven_input k }
     {
-        if floats::is_finite(self.filter_source_energy) {
-            let first = self.tried(driven_input, k);
-            let second = tried_after(first, driven_input, k);
-            let third = tried_after(second, driven_input, k);
-            let fourth = tried_after(third, driven_input, k);
-            return with_finite_low(fourth);
+        if !floats::is_finite(self.filter_source_energy) {
+            return None;
         }
-        Substeps::NotFinite
-    }
-}
-
-// A further substep, where the last one stayed in the domain.
-fn tried_after(last: Substeps, driven_input: f32, k: Coefficients) -> Substeps
-    ensures { result ≡ tried_after_of last driven_input k }
-{
-    match last {
-        Substeps::Settled(advanced) => {
-            let state = advanced.state;
-            state.tried(driven_input, k)
-        }
-        Substeps::NotFinite => Substeps::NotFinite,
-    }
-}
-
-fn with_finite_low(last: Substeps) -> Substeps
-    ensures { result ≡ with_finite_low_of last }
-{
-    match last {
-        Substeps::Settled(advanced) => {
-            let state = advanced.state;
-            if floats::is_finite(state.low_state) {
-                return Substeps::Settled(advanced);
-            }
-            Substeps::NotFinite
-        }
-        Substeps::NotFinite => Substeps::NotFinite,
+        let first = self.tried(driven_input, k)?;
+        let second = first.state.tried(driven_input, k)?;
+        let third = second.state.tried(driven_input, k)?;
+        let fourth = third.state.tried(driven_input, k)?;
+        floats::is_finite(fourth.state.low_state).then_some(fourth)
     }
 }
 

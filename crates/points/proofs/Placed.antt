@@ -9,9 +9,8 @@ use lib.Dec.{T, leb}
 use lib.Ieee.{Float, binary32, of_bits, of_int, lt, sub, mul, div}
 use lib.Ieee.Positive.{positive}
 use lib.Ieee.Scale.{finite}
-use Rattle.answers.specs.declared.Answer.{Answer}
-use Rattle.answers.specs.declared.Answer.TheVariants.{Argument, InputNotFinite}
-use Rattle.answers.specs.Answers.{is_done_of, first_of, unless_of}
+use Rattle.answers.specs.declared.Refusal.TheVariants.{Argument, InputNotFinite}
+use Rattle.answers.specs.Answers.{first_of, unless_of, Answer}
 use Rattle.answers.proofs.Laws.{done_is, first_done, unless_done}
 use Rattle.floats.specs.Arithmetic.{◌⊕◌, ◌⊗◌, f32}
 use Rattle.floats.proofs.Laws.{both}
@@ -20,8 +19,6 @@ use Rattle.response.specs.Levels.{filter_mode_quiescent_level_of, normalise_volt
 use Rattle.mixing.specs.Topology.{topology_of, filter_count_of, reciprocal_of}
 use Rattle.mixing.proofs.Facts.{filter_most}
 use Rattle.control.specs.declared.State.{State}
-use Rattle.control.specs.declared.DecodedState.{DecodedState}
-use Rattle.control.specs.declared.DecodedState.TheVariants.{Valid, Invalid}
 use Rattle.control.specs.Block.{decode_of}
 use Rattle.curves.specs.Sampling.{no_point}
 use Rattle.curves.specs.Building.{judge_length_of}
@@ -32,11 +29,12 @@ use Rattle.direct.proofs.Placed.{summer_placed, mixer_placed}
 use Rattle.filter.specs.Lent.{Lent, judge_lent_of}
 use Rattle.filter.specs.Core.{fresh_topology_of}
 use Rattle.points.specs.Points.{refused_of, summer_call_of, mixer_call_of, state_point_of, sample_refusal_of, pointed_of, sample_point_call_of}
+use Rattle.std.specs.Prelude.{Err, is_ok, Option, Some, None}
 
 -- ---- by nibbles
 
-guarded_placed : (judged : Answer) (r : Pointed) → Placed r.point → Placed (cond (is_done_of judged) r (refused_of judged)).point
-guarded_placed judged r placed = go (is_done_of judged)
+guarded_placed : (judged : Answer) (r : Pointed) → Placed r.point → Placed (cond (is_ok judged) r (refused_of judged)).point
+guarded_placed judged r placed = go (is_ok judged)
   where
     go : (d : Bool) → Placed (cond d r (refused_of judged)).point
     go true = placed
@@ -86,16 +84,16 @@ pub sample_told : (l : Lent) (block : List ℕ) (sum energy : Float) → Placed 
 unfolding sample_point_call_of sample_refusal_of
 sample_told l block sum energy = go (decode_of block)
   where
-    known : (s : State) → is_done_of (first_of (judge_lent_of l) (sample_refusal_of l s sum energy)) ≡ true → finite sum ≡ true
+    known : (s : State) → is_ok (first_of (judge_lent_of l) (sample_refusal_of l s sum energy)) ≡ true → finite sum ≡ true
     known s done =
         let asked = (first_done (judge_lent_of l) (sample_refusal_of l s sum energy) (done_is _ done)).1 in
         let input = (first_done (judge_input_of sum energy) _ asked).0 in
         (both (finite sum) (finite energy) (unless_done (finite sum && finite energy) InputNotFinite refl input)).0
 
-    settled : (s : State) (d : Bool) → is_done_of (first_of (judge_lent_of l) (sample_refusal_of l s sum energy)) ≡ d → Placed (cond d (state_point_of l s sum) no_point)
+    settled : (s : State) (d : Bool) → is_ok (first_of (judge_lent_of l) (sample_refusal_of l s sum energy)) ≡ d → Placed (cond d (state_point_of l s sum) no_point)
     settled s true h = state_placed s sum (known s h) l
     settled s false h = none_placed
 
-    go : (d : DecodedState) → Placed (pointed_of l d sum energy).point
-    go Invalid = none_placed
-    go (Valid s) = settled s (is_done_of (first_of (judge_lent_of l) (sample_refusal_of l s sum energy))) refl
+    go : (d : Option State) → Placed (pointed_of l d sum energy).point
+    go None = none_placed
+    go (Some s) = settled s (is_ok (first_of (judge_lent_of l) (sample_refusal_of l s sum energy))) refl

@@ -1,15 +1,12 @@
 -- Where on its curve an amplifier stands: the transfers of crates/direct by nibbles, and the summer for a sample of a state.
-use Rattle.std.specs.Prelude.{ℕ, ◌&&◌, cond, List, ◌++◌, leb, Float}
+use Rattle.std.specs.Prelude.{ℕ, ◌&&◌, cond, List, ◌++◌, leb, Float, Err, is_ok, Option, Some, None}
 use Rattle.std.specs.Float.{binary32}
 use Rattle.std.specs.Float.Ieee.{to_bits}
-use Rattle.answers.specs.declared.Answer.{Answer}
-use Rattle.answers.specs.declared.Answer.TheVariants.{Argument}
-use Rattle.answers.specs.Answers.{is_done_of, first_of, unless_of}
+use Rattle.answers.specs.declared.Refusal.TheVariants.{Argument}
+use Rattle.answers.specs.Answers.{first_of, unless_of, Answer}
 use Rattle.wire.specs.Wire.{float_bytes, row_bytes}
 use Rattle.mixing.specs.Topology.{topology_of}
 use Rattle.control.specs.declared.State.{State}
-use Rattle.control.specs.declared.DecodedState.{DecodedState}
-use Rattle.control.specs.declared.DecodedState.TheVariants.{Valid, Invalid}
 use Rattle.control.specs.Block.{decode_of}
 use Rattle.curves.specs.declared.CurvePoint.{CurvePoint}
 use Rattle.curves.specs.Sampling.{no_point}
@@ -32,13 +29,13 @@ refused_of answer = record { answer = answer; point = no_point }
 unfoldable pub summer_call_of : Lent → ℕ → Float → Pointed
 summer_call_of l routing sum =
     let judged = first_of (judge_lent_of l) (unless_of (leb routing 15) Argument) in
-    cond (is_done_of judged) (summer_transfer_call_of l.bundle l.curves (topology_of routing 0) sum) (refused_of judged)
+    cond (is_ok judged) (summer_transfer_call_of l.bundle l.curves (topology_of routing 0) sum) (refused_of judged)
 
 -- the mixer: 4, 10, 3, 6
 unfoldable pub mixer_call_of : List ℕ → ℕ → ℕ → Float → Pointed
 mixer_call_of curves routing mode sum =
     let judged = first_of (judge_length_of curves) (unless_of (leb routing 15 && leb mode 15) Argument) in
-    cond (is_done_of judged) (mixer_transfer_call_of curves (topology_of routing mode) sum) (refused_of judged)
+    cond (is_ok judged) (mixer_transfer_call_of curves (topology_of routing mode) sum) (refused_of judged)
 
 -- ---- of a sample
 
@@ -52,11 +49,11 @@ state_point_of l s sum =
 unfoldable pub sample_refusal_of : Lent → State → Float → Float → Answer
 sample_refusal_of l s sum energy = first_of (judge_input_of sum energy) (first_of (judge_controls_of l.bundle s) (plain_sample l s sum energy).answer)
 
-abbrev pub pointed_of : Lent → DecodedState → Float → Float → Pointed
-pointed_of l Invalid sum energy = refused_of (first_of (judge_lent_of l) Argument)
-pointed_of l (Valid s) sum energy =
+abbrev pub pointed_of : Lent → Option State → Float → Float → Pointed
+pointed_of l None sum energy = refused_of (first_of (judge_lent_of l) Argument)
+pointed_of l (Some s) sum energy =
     let answer = first_of (judge_lent_of l) (sample_refusal_of l s sum energy) in
-    record { answer = answer; point = cond (is_done_of answer) (state_point_of l s sum) no_point }
+    record { answer = answer; point = cond (is_ok answer) (state_point_of l s sum) no_point }
 
 -- `sid_filter_sample_point`: 1, 2, 4, 10 of the block, 5, 3, 6
 unfoldable pub sample_point_call_of : Lent → List ℕ → Float → Float → Pointed

@@ -27,9 +27,9 @@ fn refused(answer: Answer) -> Pointed
 pub fn summer(bundle: &[u8], curves: &[u8], routing: u8, input_sum: f32) -> Pointed
     ensures { result ≡ P.summer_call_of (lent_of bundle.now curves.now) routing input_sum }
 {
-    let known = answers::unless(routing <= 15, Answer::Argument);
+    let known = answers::unless(routing <= 15, Refusal::Argument);
     let judged = answers::first(filter::judge_lent(bundle, curves), known);
-    if answers::is_done(judged) {
+    if judged.is_ok() {
         let topology = MixingTopology::update(routing, 0);
         return direct::summer_transfer(bundle, curves, topology, input_sum);
     }
@@ -40,9 +40,9 @@ pub fn summer(bundle: &[u8], curves: &[u8], routing: u8, input_sum: f32) -> Poin
 pub fn mixer(curves: &[u8], routing: u8, mode: u8, input_sum: f32) -> Pointed
     ensures { result ≡ P.mixer_call_of curves.now routing mode input_sum }
 {
-    let known = answers::unless((routing <= 15) & (mode <= 15), Answer::Argument);
+    let known = answers::unless((routing <= 15) & (mode <= 15), Refusal::Argument);
     let judged = answers::first(curves::judge_length(curves), known);
-    if answers::is_done(judged) {
+    if judged.is_ok() {
         let topology = MixingTopology::update(routing, mode);
         return direct::mixer_transfer(curves, topology, input_sum);
     }

@@ -1,11 +1,9 @@
 -- What the comparison asks of the core.
 use Rattle.std.specs.Int.{w16}
 use Rattle.std.proofs.Common.{to_z, of_z}
-use Rattle.answers.specs.declared.Answer.TheVariants.{Script}
+use Rattle.answers.specs.declared.Refusal.TheVariants.{Script}
 use Rattle.answers.specs.Answers.{number_of, buffer_of, place_of}
 use Rattle.control.specs.declared.FilterRegisters.{FilterRegisters}
-use Rattle.script.specs.declared.DecodedEvent.{DecodedEvent}
-use Rattle.script.specs.declared.DecodedEvent.TheVariants.{Readable, Unreadable}
 use Rattle.filter.specs.declared.Core.{Core}
 use Rattle.filter.specs.declared.Fed.{Fed}
 use Rattle.filter.specs.Lent.{Lent}
@@ -13,6 +11,8 @@ use Rattle.filter.specs.Core.{no_outputs, feed_of}
 use Rattle.probe.specs.declared.cores.Registers.{Registers}
 use Rattle.probe.specs.declared.cores.Handed.{Handed}
 use Rattle.probe.specs.declared.cores.Given.{Given}
+use Rattle.std.specs.Prelude.{Err, Option, Some, None}
+use Rattle.script.specs.declared.Event.{Event}
 
 -- the displacement goes by its sixteen bits
 abbrev pub registers_of : Registers → FilterRegisters
@@ -50,6 +50,6 @@ abbrev pub given_of : Fed → Given
 given_of f = record { number = number_of f.answer; buffer = buffer_of f.answer; place = place_of f.answer; outputs = f.outputs; core = handed_of f.core }
 
 -- the event, and 7 where there is none
-abbrev pub fed_at_of : Lent → Core → DecodedEvent → Fed
-fed_at_of lent k (Readable e) = feed_of lent k e
-fed_at_of lent k Unreadable = record { answer = Script; outputs = no_outputs; core = k }
+abbrev pub fed_at_of : Lent → Core → Option Event → Fed
+fed_at_of lent k (Some e) = feed_of lent k e
+fed_at_of lent k None = record { answer = Script; outputs = no_outputs; core = k }

@@ -1,13 +1,11 @@
 -- What the comparison asks of a state's block and of a script.
-use Rattle.std.specs.Prelude.{ℕ, true, false, cond, List, eqb}
+use Rattle.std.specs.Prelude.{ℕ, true, false, cond, List, eqb, Option, Some, None, Result, Ok, Err}
 use Rattle.control.specs.declared.State.{State}
-use Rattle.control.specs.declared.DecodedState.{DecodedState}
-use Rattle.control.specs.declared.DecodedState.TheVariants.{Valid, Invalid}
 use Rattle.control.specs.Registers.{effective_cutoff_of, starting_state, write_cutoff_low_of, write_cutoff_high_of, write_signal_routing_of, write_mode_and_volume_of}
 use Rattle.control.specs.Block.{encode_of}
 use Rattle.script.specs.declared.Checked.{Checked}
-use Rattle.script.specs.declared.Checked.TheVariants.{WellFormed, Refused}
 use Rattle.probe.specs.declared.Script.{Script}
+use Rattle.answers.specs.declared.Refusal.{Refusal}
 
 -- registers 0 to 3 are cutoff low, cutoff high, routing and mode; any other number is a reset
 unfoldable pub write_of : State → ℕ → ℕ → State
@@ -18,20 +16,20 @@ write_of s register value =
     (cond (eqb register 3) (write_mode_and_volume_of s value) starting_state)))
 
 -- the state of a valid block, and the starting value for any other
-abbrev pub state_or : DecodedState → State
-state_or (Valid s) = s
-state_or Invalid = starting_state
+abbrev pub state_or : Option State → State
+state_or (Some s) = s
+state_or None = starting_state
 
 -- a valid block after a write; an invalid one stays
-abbrev pub written_of : DecodedState → List ℕ → ℕ → ℕ → List ℕ
-written_of (Valid s) block register value = encode_of (write_of s register value) block
-written_of Invalid block register value = block
+abbrev pub written_of : Option State → List ℕ → ℕ → ℕ → List ℕ
+written_of (Some s) block register value = encode_of (write_of s register value) block
+written_of None block register value = block
 
 -- the effective cutoff of a valid block, and 65,535 for any other
-abbrev pub effective_of : DecodedState → ℕ
-effective_of (Valid s) = effective_cutoff_of s
-effective_of Invalid = 65535
+abbrev pub effective_of : Option State → ℕ
+effective_of (Some s) = effective_cutoff_of s
+effective_of None = 65535
 
-abbrev pub script_reply_of : Checked → Script
-script_reply_of (WellFormed events samples) = record { refused = false; events = events; samples = samples }
-script_reply_of (Refused a) = record { refused = true; events = 0; samples = 0 }
+abbrev pub script_reply_of : Result Checked Refusal → Script
+script_reply_of (Ok (record { events = events; samples = samples })) = record { refused = false; events = events; samples = samples }
+script_reply_of (Err a) = record { refused = true; events = 0; samples = 0 }

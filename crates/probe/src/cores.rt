@@ -148,9 +148,9 @@ fn fed_at(
 {
     let decoded = script::event_at(script, place);
     match decoded {
-        script::DecodedEvent::Readable(event) => core.feed(bundle, curves, decays, event),
-        script::DecodedEvent::Unreadable => Fed {
-            answer: Answer::Script,
+        Some(event) => core.feed(bundle, curves, decays, event),
+        None => Fed {
+            answer: Err(Refusal::Script),
             outputs: Outputs {
                 high: 0.0,
                 band: 0.0,

@@ -19,7 +19,7 @@ ghost use Rattle.refresh.specs.Refresh.{refresh_of};
 ghost use Rattle.script.specs.Script.{check_script_of};
 ghost use Rattle.probe.specs.Probe.{state_or, write_of, written_of, effective_of, script_reply_of};
 
-use control::{DecodedState, State};
+use control::{Option<State>, State};
 use controls::ControlCache;
 use integrator::{Advanced, Coefficients, IntegratorState};
 use mixing::MixingTopology;
@@ -111,8 +111,8 @@ pub extern "C" fn probe_effective_cutoff(block: &[u8]) -> u16
 {
     let decoded = State::decode(block);
     match decoded {
-        DecodedState::Valid(state) => state.effective_cutoff(),
-        DecodedState::Invalid => 65535,
+        Some(state) => state.effective_cutoff(),
+        None => 65535,
     }
 }
 
@@ -134,7 +134,7 @@ pub extern "C" fn probe_write(block: &mut [u8], register: u8, value: u8)
     ensures { block.new ≡ written_of (decode_of block.old) block.old register value }
 {
     let decoded = State::decode(block);
-    if let DecodedState::Valid(state) = decoded {
+    if let Some(state) = decoded {
         let next = write(state, register, value);
         next.encode(block);
     }
@@ -154,8 +154,8 @@ pub extern "C" fn probe_controls(bundle: &[u8], block: &[u8]) -> ControlCache
 {
     let decoded = State::decode(block);
     match decoded {
-        DecodedState::Valid(state) => refreshed(bundle, state),
-        DecodedState::Invalid => refreshed(bundle, State::new()),
+        Some(state) => refreshed(bundle, state),
+        None => refreshed(bundle, State::new()),
     }
 }
 

@@ -4,7 +4,7 @@ ghost use Rattle.control.specs.Block.{decode_of};
 ghost use Rattle.probe.specs.Probe.{state_or};
 ghost use Rattle.probe.specs.Steps.{sample_step_of, fresh_sample_of};
 
-use control::{DecodedState, State};
+use control::{Option<State>, State};
 use mixing::MixingTopology;
 use sample::Sampled;
 
@@ -92,7 +92,7 @@ pub extern "C" fn probe_step(
 {
     let decoded = State::decode(block);
     match decoded {
-        DecodedState::Valid(state) => numbers(sampled(bundle, curves, state, sum, energy)),
-        DecodedState::Invalid => numbers(sampled(bundle, curves, State::new(), sum, energy)),
+        Some(state) => numbers(sampled(bundle, curves, state, sum, energy)),
+        None => numbers(sampled(bundle, curves, State::new(), sum, energy)),
     }
 }

@@ -5,7 +5,7 @@
 ghost use Rattle.std.specs.Prelude.{◌≡◌, ◌≤◌, length};
 
 use answers::Answer;
-use control::{DecodedState, State};
+use control::{Option<State>, State};
 use controls::{FilterControls, OutputControls};
 use filter::{Core, Fed};
 use mixing::MixingTopology;
@@ -22,9 +22,9 @@ fn fed_at(
 ) -> Fed {
     let decoded = script::event_at(script, place);
     match decoded {
-        script::DecodedEvent::Readable(event) => core.feed(bundle, curves, decays, event),
-        script::DecodedEvent::Unreadable => Fed {
-            answer: Answer::Script,
+        Some(event) => core.feed(bundle, curves, decays, event),
+        None => Fed {
+            answer: Err(Refusal::Script),
             outputs: Outputs {
                 high: 0.0,
                 band: 0.0,
@@ -40,8 +40,8 @@ fn fed_at(
 fn state_or(block: &[u8]) -> State {
     let decoded = State::decode(block);
     match decoded {
-        DecodedState::Valid(state) => state,
-        DecodedState::Invalid => State::new(),
+        Some(state) => state,
+        None => State::new(),
     }
 }
 

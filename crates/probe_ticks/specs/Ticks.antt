@@ -1,43 +1,40 @@
 -- A tick on a state's block: its core is worked out and ticked once.
-use Rattle.std.specs.Prelude.{ℕ, cond, List, eqb}
+use Rattle.std.specs.Prelude.{ℕ, cond, List, eqb, Err, is_ok, Option, Some, None, Result, Ok}
 use Rattle.std.specs.Float.{binary32}
 use Rattle.std.specs.Float.Ieee.{to_bits}
-use Rattle.answers.specs.declared.Answer.{Answer}
-use Rattle.answers.specs.declared.Answer.TheVariants.{Argument}
-use Rattle.answers.specs.Answers.{number_of, buffer_of, place_of, is_done_of, first_of}
+use Rattle.answers.specs.declared.Refusal.TheVariants.{Argument}
+use Rattle.answers.specs.Answers.{number_of, buffer_of, place_of, first_of, Answer}
 use Rattle.wire.specs.Wire.{row_bytes, put_at}
 use Rattle.integrator.specs.declared.IntegratorState.{IntegratorState}
 use Rattle.transients.specs.declared.TransientState.{TransientState}
 use Rattle.control.specs.declared.State.{State}
-use Rattle.control.specs.declared.DecodedState.{DecodedState}
-use Rattle.control.specs.declared.DecodedState.TheVariants.{Valid, Invalid}
 use Rattle.control.specs.Block.{fields_of, encode_of}
 use Rattle.clock.specs.declared.TickOutputs.{TickOutputs}
 use Rattle.clock.specs.declared.Ticked.{Ticked}
-use Rattle.clock.specs.declared.Ticked.TheVariants.{Clocked, Refused}
 use Rattle.filter.specs.Lent.{Lent, judge_lent_of}
 use Rattle.turns.specs.declared.TickFed.{TickFed}
 use Rattle.turns.specs.Turns.{turn_start_of, judge_tick_of, core_tick_of}
 use Rattle.probe_ticks.specs.declared.TickReply.{TickReply}
+use Rattle.answers.specs.declared.Refusal.{Refusal}
 
 -- what a tick on a core left, or its refusal
-unfoldable pub tick_left_of : Answer → TickFed → Ticked
-tick_left_of answer r = cond (is_done_of answer) (Clocked r.outputs r.core.state.integrator r.core.state.transients) (Refused answer)
+unfoldable pub tick_left_of : Answer → TickFed → Result Ticked Refusal
+tick_left_of answer r = cond (is_ok answer) (Ok (record { outputs = r.outputs; integrator = r.core.state.integrator; transients = r.core.state.transients })) (Err answer)
 
 -- 1, 2, 4, 10, 12, 11, then 3 and 6 of the controls, then the stages
-unfoldable pub state_tick_of : Lent → List ℕ → List ℕ → State → Ticked
+unfoldable pub state_tick_of : Lent → List ℕ → List ℕ → State → Result Ticked Refusal
 state_tick_of l levels voices s =
     let started = turn_start_of l levels s in
     let fed = core_tick_of l levels started.core voices in
     tick_left_of (first_of (judge_tick_of l levels started.core voices) (first_of started.answer fed.answer)) fed
 
 -- 10 of a block that is no state's, or of an output that is not 16 bytes long
-abbrev pub no_block_of : Lent → Ticked
-no_block_of l = Refused (first_of (judge_lent_of l) Argument)
+abbrev pub no_block_of : Lent → Result Ticked Refusal
+no_block_of l = Err (first_of (judge_lent_of l) Argument)
 
-abbrev pub block_tick_of : Lent → List ℕ → List ℕ → ℕ → DecodedState → Ticked
-block_tick_of l levels voices room (Valid s) = cond (eqb room 16) (state_tick_of l levels voices s) (no_block_of l)
-block_tick_of l levels voices room Invalid = no_block_of l
+abbrev pub block_tick_of : Lent → List ℕ → List ℕ → ℕ → Option State → Result Ticked Refusal
+block_tick_of l levels voices room (Some s) = cond (eqb room 16) (state_tick_of l levels voices s) (no_block_of l)
+block_tick_of l levels voices room None = no_block_of l
 
 -- ---- what it leaves
 
@@ -50,14 +47,14 @@ abbrev pub output_after_of : TickOutputs → List ℕ → List ℕ
 output_after_of o output = put_at output 0 (row_bytes (to_bits binary32 o.stage) (to_bits binary32 o.charge) (to_bits binary32 o.mixer) (to_bits binary32 o.filter))
 
 -- an answer by its numbers
-abbrev pub tick_reply_of : Ticked → TickReply
-tick_reply_of (Clocked o i t) = record { number = 0; buffer = 0; place = 0 }
-tick_reply_of (Refused a) = record { number = number_of a; buffer = buffer_of a; place = place_of a }
+abbrev pub tick_reply_of : Result Ticked Refusal → TickReply
+tick_reply_of (Ok (record { outputs = o; integrator = i; transients = t })) = record { number = 0; buffer = 0; place = 0 }
+tick_reply_of (Err a) = record { number = number_of a; buffer = buffer_of a; place = place_of a }
 
-abbrev pub ticked_block_of : Ticked → List ℕ → List ℕ
-ticked_block_of (Clocked o i t) block = block_after_of i t block
-ticked_block_of (Refused a) block = block
+abbrev pub ticked_block_of : Result Ticked Refusal → List ℕ → List ℕ
+ticked_block_of (Ok (record { outputs = o; integrator = i; transients = t })) block = block_after_of i t block
+ticked_block_of (Err a) block = block
 
-abbrev pub ticked_output_of : Ticked → List ℕ → List ℕ
-ticked_output_of (Clocked o i t) output = output_after_of o output
-ticked_output_of (Refused a) output = output
+abbrev pub ticked_output_of : Result Ticked Refusal → List ℕ → List ℕ
+ticked_output_of (Ok (record { outputs = o; integrator = i; transients = t })) output = output_after_of o output
+ticked_output_of (Err a) output = output

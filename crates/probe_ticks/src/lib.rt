@@ -8,7 +8,7 @@ ghost use Rattle.probe_ticks.specs.Ticks as T;
 
 use answers::Answer;
 use clock::{TickOutputs, Ticked};
-use control::{DecodedState, State};
+use control::{Option<State>, State};
 use integrator::IntegratorState;
 use transients::TransientState;
 use turns::TickFed;
@@ -27,7 +27,7 @@ pub struct TickReply {
 fn tick_left(answer: Answer, fed: TickFed) -> Ticked
     ensures { result ≡ T.tick_left_of answer fed }
 {
-    if answers::is_done(answer) {
+    if answer.is_ok() {
         let outputs = fed.outputs;
         let core = fed.core;
         let state = core.state;
@@ -66,7 +66,7 @@ fn no_block(bundle: &[u8], curves: &[u8]) -> Ticked
     ensures { result ≡ T.no_block_of (lent_of bundle.now curves.now) }
 {
     Ticked::Refused {
-        answer: answers::first(filter::judge_lent(bundle, curves), Answer::Argument),
+        answer: answers::first(filter::judge_lent(bundle, curves), Err(Refusal::Argument)),
     }
 }
 
@@ -83,13 +83,13 @@ fn block_tick(
 {
     let decoded = State::decode(block);
     match decoded {
-        DecodedState::Valid(state) => {
+        Some(state) => {
             if room == 16 {
                 return state_tick(bundle, curves, decays, levels, voices, state);
             }
             no_block(bundle, curves)
         }
-        DecodedState::Invalid => no_block(bundle, curves),
+        None => no_block(bundle, curves),
     }
 }
 

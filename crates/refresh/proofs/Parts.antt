@@ -12,15 +12,12 @@ use lib.ListN.{get_or, length}
 use lib.Ieee.{Float, nan, inf, fin, binary32, of_bits, of_int, add, mul, div}
 use lib.Ieee.Scale.{finite}
 use Rattle.constants.specs.Drives.{drive_of, input_drive_of, feedback_drive_of, input_drives_of, feedback_drives_of}
-use Rattle.answers.specs.declared.Answer.{Answer}
-use Rattle.answers.specs.declared.Answer.TheVariants.{Done}
 use Rattle.answers.specs.declared.Buffer.TheVariants.{Bundle}
-use Rattle.answers.specs.Answers.{is_done_of, first_of}
+use Rattle.answers.specs.Answers.{first_of, Answer, done}
 use Rattle.answers.proofs.Laws.{done_is, first_done}
 use Rattle.wire.specs.Wire.{usable_of, u32_at}
 use Rattle.wire.proofs.Magnitude.{at_most, usable_is}
 use Rattle.bundle.specs.Opening.{entry_at}
-use Rattle.bundle.specs.declared.Read.TheVariants.{Value, Refused}
 use Rattle.bundle.specs.Reading.{read_of}
 use Rattle.bundle.proofs.Laws.{judge_done}
 use Rattle.control.specs.declared.State.{State}
@@ -34,6 +31,7 @@ use Rattle.refresh.specs.declared.Judged.{Judged}
 use Rattle.refresh.specs.declared.Refreshed.{Refreshed}
 use Rattle.refresh.specs.Refresh.{judge_gain_of, gain_answer_of, gain_value_of, state_gain_of, judged_of, no_controls, refresh_of}
 use Rattle.finite.proofs.Finite.{high_coupling_finite, band_coupling_finite, position_finite, feedback_finite, modulation_finite, lift_finite}
+use Rattle.std.specs.Prelude.{is_ok, Ok, Err}
 
 at_most_finite : (k : ℕ) (x : Float) → at_most k x ≡ true → finite x ≡ true
 at_most_finite k nan e = e
@@ -48,11 +46,11 @@ unfolding input_drives_of feedback_drives_of input_drive_of feedback_drive_of dr
 drives_finite = (refl, refl)
 
 module _ (bundle : List ℕ) (code resonance : ℕ) where
-  entry : judge_filter_of bundle code resonance ≡ Done → (i : ℕ) → i < length (filter_places_of code resonance) → finite (entry_at bundle (get_or (filter_places_of code resonance) i 0)) ≡ true
+  entry : judge_filter_of bundle code resonance ≡ done → (i : ℕ) → i < length (filter_places_of code resonance) → finite (entry_at bundle (get_or (filter_places_of code resonance) i 0)) ≡ true
   unfolding judge_filter_of
   entry d i h = usable_finite (u32_at bundle (get_or (filter_places_of code resonance) i 0)) (judge_done Bundle bundle (filter_places_of code resonance) d i h)
 
-  pub filter_finite : code < 2048 → resonance < 256 → judge_filter_of bundle code resonance ≡ Done → finite_filter_of (refresh_filter_controls_of bundle code resonance) ≡ true
+  pub filter_finite : code < 2048 → resonance < 256 → judge_filter_of bundle code resonance ≡ done → finite_filter_of (refresh_filter_controls_of bundle code resonance) ≡ true
   unfolding finite_filter_of refresh_filter_controls_of integrator_gain_of of_bits
   filter_finite c r d =
       simp (
@@ -104,12 +102,12 @@ pub judged_by_parts : (bundle : List ℕ) (s : State) → s.registers.resonance 
 unfolding judge_controls_of judge_entries_of judge_domain_of judge_gain_of finite_controls_of controls_of
 judged_by_parts bundle s r =
     let filter = judge_filter_of bundle (effective_cutoff_of s) s.registers.resonance in
-    go filter refl (is_done_of filter) refl
+    go filter refl (is_ok filter) refl
   where
-    go : (filter : Answer) → judge_filter_of bundle (effective_cutoff_of s) s.registers.resonance ≡ filter → (d : Bool) → is_done_of filter ≡ d
+    go : (filter : Answer) → judge_filter_of bundle (effective_cutoff_of s) s.registers.resonance ≡ filter → (d : Bool) → is_ok filter ≡ d
         → judge_controls_of bundle s ≡ first_of filter (judge_gain_of bundle s.registers (effective_cutoff_of s))
     go filter is true h =
-        let done : judge_filter_of bundle (effective_cutoff_of s) s.registers.resonance ≡ Done = is ∙ done_is filter h in
+        let done : judge_filter_of bundle (effective_cutoff_of s) s.registers.resonance ≡ done = is ∙ done_is filter h in
         simp (done, h, filter_finite bundle (effective_cutoff_of s) s.registers.resonance (effective_small s) r done)
     go filter is false h = simp (is, h, h)
 
@@ -121,33 +119,33 @@ judged_by_registers bundle s = refl
 -- the answer beside a gain that was read
 pub gain_answer : (judged : Answer) (x : Float) → gain_answer_of (read_of judged x) ≡ judged
 unfolding read_of
-gain_answer judged x = go (is_done_of judged) refl
+gain_answer judged x = go (is_ok judged) refl
   where
-    go : (d : Bool) → is_done_of judged ≡ d → gain_answer_of (cond d (Value x) (Refused judged)) ≡ judged
+    go : (d : Bool) → is_ok judged ≡ d → gain_answer_of (cond d (Ok x) (Err judged)) ≡ judged
     go true h = sym (done_is judged h)
     go false h = refl
 
 -- and the gain, where it is not refused
-pub gain_value : (judged : Answer) (x : Float) → is_done_of judged ≡ true → gain_value_of (read_of judged x) ≡ x
+pub gain_value : (judged : Answer) (x : Float) → is_ok judged ≡ true → gain_value_of (read_of judged x) ≡ x
 unfolding read_of
 gain_value judged x h = rw h refl
 
 -- where the controls of a state are not refused, its gain is that of its controls
-pub state_gain : (bundle : List ℕ) (s : State) → s.registers.resonance < 256 → is_done_of (judge_controls_of bundle s) ≡ true
+pub state_gain : (bundle : List ℕ) (s : State) → s.registers.resonance < 256 → is_ok (judge_controls_of bundle s) ≡ true
     → state_gain_of bundle s ≡ refresh_mode_output_gain_of bundle s.registers (effective_cutoff_of s)
 state_gain bundle s r h =
     let filter = judge_filter_of bundle (effective_cutoff_of s) s.registers.resonance in
     let gain = judge_gain_of bundle s.registers (effective_cutoff_of s) in
     let done = (first_done filter gain (sym (judged_by_parts bundle s r) ∙ done_is (judge_controls_of bundle s) h)).1 in
-    gain_value gain (refresh_mode_output_gain_of bundle s.registers (effective_cutoff_of s)) (ap is_done_of done)
+    gain_value gain (refresh_mode_output_gain_of bundle s.registers (effective_cutoff_of s)) (ap is_ok done)
 
 -- ---- the controls as `refresh` puts them together
 
 module _ (bundle : List ℕ) (s : State) where
-  abbrev done_here : {j : Judged} → j ≡ judged_of bundle s → {d v : Bool} → d ≡ is_done_of j.answer → d ≡ v → is_done_of (judge_controls_of bundle s) ≡ v
-  done_here is is_d h = ap (λ (j : Judged). is_done_of j.answer) (sym is) ∙ sym is_d ∙ h
+  abbrev done_here : {j : Judged} → j ≡ judged_of bundle s → {d v : Bool} → d ≡ is_ok j.answer → d ≡ v → is_ok (judge_controls_of bundle s) ≡ v
+  done_here is is_d h = ap (λ (j : Judged). is_ok j.answer) (sym is) ∙ sym is_d ∙ h
 
-  pub refreshed : s.registers.resonance < 256 → {j : Judged} → j ≡ judged_of bundle s → {d : Bool} → d ≡ is_done_of j.answer → d ≡ true
+  pub refreshed : s.registers.resonance < 256 → {j : Judged} → j ≡ judged_of bundle s → {d : Bool} → d ≡ is_ok j.answer → d ≡ true
       → {f : FilterControls} → f ≡ refresh_filter_controls_of bundle (effective_cutoff_of s) s.registers.resonance → {o : OutputControls} → o ≡ refresh_register_output_state_of s.registers
       → ◌≡◌ {A = Refreshed} (record { answer = j.answer; controls = record { filter = f; mode_output_gain = j.gain; output = o } }) (refresh_of bundle s)
   unfolding controls_of
@@ -155,6 +153,6 @@ module _ (bundle : List ℕ) (s : State) where
       let done = done_here is is_d t in
       rw (is, f, o, done, state_gain bundle s r done) refl
 
-  pub refused : {j : Judged} → j ≡ judged_of bundle s → {d : Bool} → d ≡ is_done_of j.answer → d ≡ false → {c : ControlCache} → c ≡ no_controls
+  pub refused : {j : Judged} → j ≡ judged_of bundle s → {d : Bool} → d ≡ is_ok j.answer → d ≡ false → {c : ControlCache} → c ≡ no_controls
       → ◌≡◌ {A = Refreshed} (record { answer = j.answer; controls = c }) (refresh_of bundle s)
   refused is is_d t c = rw (is, c, done_here is is_d t) refl

@@ -4,7 +4,6 @@ use mathlib.Core.Path.{◌≡◌, refl, subst, ◌∙◌}
 use mathlib.Core.Bool.{Bool, true, ◌&&◌}
 use mathlib.Core.List.{List, [], ◌∷◌, map}
 use native.Mathlib.Omega.{arith}
-use Rattle.answers.specs.declared.Answer.TheVariants.{Done}
 use Rattle.answers.specs.declared.Buffer.TheVariants.{Bundle}
 use Rattle.floats.proofs.Laws.{both}
 use Rattle.wire.specs.Wire.{sixteen_at, u32_at, usable_at, all_usable}
@@ -14,9 +13,10 @@ use Rattle.bundle.proofs.Laws.{judge_append}
 use Rattle.controls.specs.Controls.{integrator_gain_of}
 use Rattle.controls.specs.Judging.{judge_filter_of}
 use Rattle.refresh.specs.Refresh.{gains_of}
+use Rattle.answers.specs.Answers.{done}
 
 -- Entries whose words are each usable are judged so.
-words_judged : (bundle places : List ℕ) → all_usable (map (u32_at bundle) places) ≡ true → judge_places_of Bundle bundle places ≡ Done
+words_judged : (bundle places : List ℕ) → all_usable (map (u32_at bundle) places) ≡ true → judge_places_of Bundle bundle places ≡ done
 unfolding judge_places_of
 words_judged bundle [] e = refl
 words_judged bundle (p ∷ rest) e =
@@ -86,11 +86,11 @@ module _ (bundle : List ℕ) (code resonance : ℕ) where
   abbrev each : Bool
   each = all_usable words && usable_at bundle (damping_place resonance) && usable_at bundle (source_gain_modulation_place code)
 
-  pub all_usable_lem : each ≡ true → judge_filter_of bundle code resonance ≡ Done
+  pub all_usable_lem : each ≡ true → judge_filter_of bundle code resonance ≡ done
   unfolding judge_filter_of
   all_usable_lem e =
       let m = both (all_usable words && usable_at bundle (damping_place resonance)) (usable_at bundle (source_gain_modulation_place code)) e in
       let d = both (all_usable words) (usable_at bundle (damping_place resonance)) m.0 in
-      let g : judge_places_of Bundle bundle places ≡ Done = words_judged bundle places (subst (λ (w : List ℕ). all_usable w ≡ true) words_read d.0) in
-      let o : judge_places_of Bundle bundle others ≡ Done = words_judged bundle others (simp (d.1, m.1)) in
+      let g : judge_places_of Bundle bundle places ≡ done = words_judged bundle places (subst (λ (w : List ℕ). all_usable w ≡ true) words_read d.0) in
+      let o : judge_places_of Bundle bundle others ≡ done = words_judged bundle others (simp (d.1, m.1)) in
       judge_append Bundle bundle places others ∙ simp (g, o)

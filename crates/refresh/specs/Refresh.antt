@@ -1,16 +1,13 @@
 -- What the refresh calls give as the code makes it, by the part that a write changes, and what is refused of each part. The calls themselves are defined in
 -- crates/controls: Controls.antt and Judging.antt.
-use Rattle.std.specs.Prelude.{ℕ, false, cond, ◌&&◌, List, eqb, ℤ, get_or, replicate, Float}
+use Rattle.std.specs.Prelude.{ℕ, false, cond, ◌&&◌, List, eqb, ℤ, get_or, replicate, Float, Err, is_ok, Result, Ok}
 use Rattle.std.specs.Float.{binary32}
 use Rattle.std.specs.Float.Ieee.{of_bits}
 use Rattle.std.specs.Float.Ieee.Scale.{finite}
 use Rattle.constants.specs.Drives.{sixteen}
-use Rattle.answers.specs.declared.Answer.{Answer}
-use Rattle.answers.specs.declared.Answer.TheVariants.{Done, Domain}
-use Rattle.answers.specs.Answers.{is_done_of, first_of, unless_of}
+use Rattle.answers.specs.declared.Refusal.TheVariants.{Domain}
+use Rattle.answers.specs.Answers.{first_of, unless_of, Answer, done}
 use Rattle.floats.specs.Arithmetic.{◌⊗◌, f32}
-use Rattle.bundle.specs.declared.Read.{Read}
-use Rattle.bundle.specs.declared.Read.TheVariants.{Value, Refused}
 use Rattle.bundle.specs.Layout.{highpass_loading_place, directional_power_place}
 use Rattle.bundle.specs.Opening.{entry_at}
 use Rattle.bundle.specs.Reading.{read_of}
@@ -26,6 +23,7 @@ use Rattle.refresh.specs.declared.CoreControls.{CoreControls}
 use Rattle.refresh.specs.declared.CoreRefreshed.{CoreRefreshed}
 use Rattle.refresh.specs.declared.Judged.{Judged}
 use Rattle.refresh.specs.declared.Refreshed.{Refreshed}
+use Rattle.answers.specs.declared.Refusal.{Refusal}
 
 -- ---- `refresh_filter_controls`
 
@@ -54,18 +52,18 @@ gains_of w = sixteen (λ bin. of_bits binary32 (get_or w bin 0))
 -- ---- `refresh_mode_output_gain`
 
 -- the highpass loading, which mode 4 reads
-abbrev pub read_loading_of : List ℕ → ℕ → ℕ → Read
+abbrev pub read_loading_of : List ℕ → ℕ → ℕ → Result Float Refusal
 read_loading_of bundle m effective =
     read_of (judge_if_of (eqb m 4) bundle (highpass_loading_place effective)) (cond (eqb m 4) (entry_at bundle (highpass_loading_place effective)) (f32 0x3f80_0000))
 
 -- the loading curves at a cutoff, where a single output is selected
-abbrev pub read_directional_of : List ℕ → ℕ → ℕ → ℤ → Read
+abbrev pub read_directional_of : List ℕ → ℕ → ℕ → ℤ → Result Float Refusal
 read_directional_of bundle m cutoff displacement =
     let place = directional_power_place (mode_index_of m) cutoff displacement in
     read_of (judge_if_of (is_single_mode_of m) bundle place)
     (cond (is_single_mode_of m) (symmetric_gain_of (mode_index_of m) cutoff ⊗ entry_at bundle place) (f32 0x3f80_0000))
 
-abbrev pub read_gain_of : List ℕ → FilterRegisters → ℕ → Read
+abbrev pub read_gain_of : List ℕ → FilterRegisters → ℕ → Result Float Refusal
 read_gain_of bundle r effective = read_of (judge_mode_of bundle r effective) (refresh_mode_output_gain_of bundle r effective)
 
 -- 3 of the entries, then 6 of the gain and of what `refresh_register_output_state` works out
@@ -74,17 +72,17 @@ judge_gain_of bundle r effective =
     first_of (judge_mode_of bundle r effective)
     (unless_of (finite (refresh_mode_output_gain_of bundle r effective) && finite_output_of (refresh_register_output_state_of r)) Domain)
 
-abbrev pub read_mode_output_gain_of : List ℕ → FilterRegisters → ℕ → Read
+abbrev pub read_mode_output_gain_of : List ℕ → FilterRegisters → ℕ → Result Float Refusal
 read_mode_output_gain_of bundle r effective = read_of (judge_gain_of bundle r effective) (refresh_mode_output_gain_of bundle r effective)
 
 -- a gain that was read, and 0 where it was refused; and its refusal
-abbrev pub gain_value_of : Read → Float
-gain_value_of (Value x) = x
-gain_value_of (Refused answer) = f32 0
+abbrev pub gain_value_of : Result Float Refusal → Float
+gain_value_of (Ok x) = x
+gain_value_of (Err answer) = f32 0
 
-abbrev pub gain_answer_of : Read → Answer
-gain_answer_of (Value x) = Done
-gain_answer_of (Refused answer) = answer
+abbrev pub gain_answer_of : Result Float Refusal → Answer
+gain_answer_of (Ok x) = done
+gain_answer_of (Err answer) = answer
 
 -- ---- all three
 
@@ -133,4 +131,4 @@ no_controls =
 abbrev pub refresh_of : List ℕ → State → Refreshed
 refresh_of bundle s =
     let judged = judge_controls_of bundle s in
-    record { answer = judged; controls = cond (is_done_of judged) (controls_of bundle s) no_controls }
+    record { answer = judged; controls = cond (is_ok judged) (controls_of bundle s) no_controls }

@@ -179,7 +179,7 @@ pub fn judge_filter(bundle: &[u8], cutoff: u16, resonance: u8) -> Answer
                 bundle::source_gain_modulation_place(cutoff) as usize,
             );
         if usable {
-            return Answer::Done;
+            return Ok(());
         }
     }
     judge_filter_places(bundle, cutoff, resonance)
@@ -188,7 +188,7 @@ pub fn judge_filter(bundle: &[u8], cutoff: u16, resonance: u8) -> Answer
 // ---- refresh_mode_output_gain
 
 // The highpass loading where the mode reads it, judged as it is read.
-fn read_loading(bundle: &[u8], m: u8, effective: u16) -> Read
+fn read_loading(bundle: &[u8], m: u8, effective: u16) -> Result<f32, Refusal>
     ensures { result ≡ R.read_loading_of bundle.now m effective }
 {
     if m == 4 {
@@ -198,11 +198,11 @@ fn read_loading(bundle: &[u8], m: u8, effective: u16) -> Read
             bundle::highpass_loading_place(effective),
         );
     }
-    Read::Value(1.0)
+    Ok(1.0)
 }
 
 // The loading curves at a cutoff, which is the written one, judged as they are read.
-fn read_directional(bundle: &[u8], m: u8, cutoff: u16, displacement: i16) -> Read
+fn read_directional(bundle: &[u8], m: u8, cutoff: u16, displacement: i16) -> Result<f32, Refusal>
     ensures { result ≡ R.read_directional_of bundle.now m cutoff displacement }
 {
     if response::is_single_mode(m) {
@@ -210,27 +210,27 @@ fn read_directional(bundle: &[u8], m: u8, cutoff: u16, displacement: i16) -> Rea
         let place = bundle::directional_power_place(row, cutoff, displacement);
         let power = bundle::read_entry(Buffer::Bundle, bundle, place);
         return match power {
-            Read::Refused(answer) => Read::Refused(answer),
-            Read::Value(x) => Read::Value(response::symmetric_gain(row as usize, cutoff) * x),
+            Err(answer) => Err(answer),
+            Ok(x) => Ok(response::symmetric_gain(row as usize, cutoff) * x),
         };
     }
-    Read::Value(1.0)
+    Ok(1.0)
 }
 
 // Both, and the gain of the mode's output at the effective cutoff.
-fn read_gain(bundle: &[u8], r: FilterRegisters, effective: u16) -> Read
+fn read_gain(bundle: &[u8], r: FilterRegisters, effective: u16) -> Result<f32, Refusal>
     ensures { result ≡ R.read_gain_of bundle.now r effective }
 {
     let m = r.mode % 8;
     let loading = read_loading(bundle, m, effective);
     match loading {
-        Read::Refused(answer) => Read::Refused(answer),
-        Read::Value(x) => {
+        Err(answer) => Err(answer),
+        Ok(x) => {
             let displacement = r.cutoff_dac_displacement_codes;
             let directional = read_directional(bundle, m, r.cutoff, displacement);
             match directional {
-                Read::Refused(answer) => Read::Refused(answer),
-                Read::Value(y) => Read::Value(
+                Err(answer) => Err(answer),
+                Ok(y) => Ok(
                     response::filter_mode_output_gain(r.mode, r.resonance, effective, x) * y,
                 ),
             }
@@ -240,37 +240,37 @@ fn read_gain(bundle: &[u8], r: FilterRegisters, effective: u16) -> Read
 
 // `refresh_mode_output_gain`: the gain, or the refusal of an entry or of a gain that is not finite. The output's numbers are finite at
 // every write (`output-finite`).
-pub fn read_mode_output_gain(bundle: &[u8], r: FilterRegisters, effective: u16) -> Read
+pub fn read_mode_output_gain(bundle: &[u8], r: FilterRegisters, effective: u16) -> Result<f32, Refusal>
     ensures { result ≡ R.read_mode_output_gain_of bundle.now r effective }
 {
     let read = read_gain(bundle, r, effective);
     match read {
-        Read::Refused(answer) => Read::Refused(answer),
-        Read::Value(gain) => {
+        Err(answer) => Err(answer),
+        Ok(gain) => {
             if floats::is_finite(gain) {
-                return Read::Value(gain);
+                return Ok(gain);
             }
-            Read::Refused(Answer::Domain)
+            Err(Refusal::Domain)
         }
     }
 }
 
 // A gain that was read, and 0 where it was refused; and its refusal.
-pub fn gain_value(gain: Read) -> f32
+pub fn gain_value(gain: Result<f32, Refusal>) -> f32
     ensures { result ≡ R.gain_value_of gain }
 {
     match gain {
-        Read::Value(x) => x,
-        Read::Refused(_answer) => 0.0,
+        Ok(x) => x,
+        Err(_answer) => 0.0,
     }
 }
 
-pub fn gain_answer(gain: Read) -> Answer
+pub fn gain_answer(gain: Result<f32, Refusal>) -> Answer
     ensures { result ≡ R.gain_answer_of gain }
 {
     match gain {
-        Read::Value(_x) => Answer::Done,
-        Read::Refused(answer) => answer,
+        Ok(_x) => Ok(()),
+        Err(answer) => answer,
     }
 }
 
@@ -337,7 +337,7 @@ pub fn refresh(bundle: &[u8], state: State) -> Refreshed
 {
     let judged = judge_controls(bundle, state);
     let answer = judged.answer;
-    if answers::is_done(answer) {
+    if answer.is_ok() {
         let registers = state.registers;
         let resonance = registers.resonance;
         let cutoff = state.effective_cutoff();

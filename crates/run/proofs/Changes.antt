@@ -3,8 +3,8 @@ use mathlib.Core.Path.{◌≡◌, refl, sym, ap, ◌∙◌}
 use mathlib.Core.Bool.{true, false, true≢false}
 use Prim.Native.Nat.{ℕ}
 use mathlib.Core.List.{List}
-use Rattle.answers.specs.declared.Answer.TheVariants.{Done, Domain}
-use Rattle.answers.specs.Answers.{unless_of, is_done_of}
+use Rattle.answers.specs.declared.Refusal.TheVariants.{Domain}
+use Rattle.answers.specs.Answers.{unless_of, done}
 use Rattle.answers.proofs.Laws.{done_is}
 use Rattle.transients.specs.declared.TransientState.{TransientState}
 use Rattle.transients.specs.Transients.{charge_of, finite_transients_of, finite_charges_of}
@@ -24,6 +24,7 @@ use Rattle.filter.specs.Lent.{Lent}
 use Rattle.filter.specs.Plain.{judge_change_of, plain_change, plain_step}
 use Rattle.filter.proofs.Demand3.{change_quiet}
 use Rattle.run.specs.Rows.{asked_of, next_of, charges_of, resets_of}
+use Rattle.std.specs.Prelude.{Err, is_ok}
 
 module _ (s : State) (v : valid_of s ≡ true) where
   kept : finite_transients_of s.transients ≡ true
@@ -102,19 +103,19 @@ module _ (s : State) (v : valid_of s ≡ true) where
     pub controls_judged : (bundle : List ℕ) {j : Judged} → j ≡ judged_of bundle (of_registers r) → j ≡ judged_of bundle (next_of s e)
     controls_judged bundle is_j = is_j ∙ rw registers_are (judged_by_registers bundle (next_of s e))
 
-    pub controls_refused : (bundle : List ℕ) {j : Judged} → j ≡ judged_of bundle (of_registers r) → is_done_of j.answer ≡ false → j.answer ≡ judge_change_of bundle (next_of s e)
+    pub controls_refused : (bundle : List ℕ) {j : Judged} → j ≡ judged_of bundle (of_registers r) → is_ok j.answer ≡ false → j.answer ≡ judge_change_of bundle (next_of s e)
     unfolding judge_change_of
     controls_refused bundle {j} is_j h =
         let is = ap (λ (x : Judged). x.answer) (controls_judged bundle is_j) in
-        let off : is_done_of (judge_controls_of bundle (next_of s e)) ≡ false = ap is_done_of (sym is) ∙ h in
+        let off : is_ok (judge_controls_of bundle (next_of s e)) ≡ false = ap is_ok (sym is) ∙ h in
         is ∙ rw off refl
 
-    module _ (bundle : List ℕ) {j : Judged} (is_j : j ≡ judged_of bundle (of_registers r)) (done : is_done_of j.answer ≡ true) where
-      controls_done : judge_controls_of bundle (next_of s e) ≡ Done
+    module _ (bundle : List ℕ) {j : Judged} (is_j : j ≡ judged_of bundle (of_registers r)) (done : is_ok j.answer ≡ true) where
+      controls_done : judge_controls_of bundle (next_of s e) ≡ done
       controls_done = ap (λ (x : Judged). x.answer) (sym (controls_judged bundle is_j)) ∙ done_is j.answer done
 
       -- an event that charges nothing
-      pub quiet_judged : charges_of e ≡ false → judge_change_of bundle (next_of s e) ≡ Done
+      pub quiet_judged : charges_of e ≡ false → judge_change_of bundle (next_of s e) ≡ done
       quiet_judged h = sym (change_quiet bundle (next_of s e) (quiet_finite e h)) ∙ controls_done
 
       -- a write of the volume, by its charges

@@ -2,8 +2,6 @@
 use mathlib.Core.Path.{◌≡◌, refl, ap}
 use mathlib.Core.Bool.{Bool, true, false, cond}
 use mathlib.Core.List.{List, [], ◌∷◌}
-use Rattle.answers.specs.declared.Answer.TheVariants.{Done}
-use Rattle.answers.specs.Answers.{is_done_of}
 use Rattle.control.specs.declared.State.{State}
 use Rattle.control.specs.Block.{valid_of}
 use Rattle.controls.specs.Judging.{judge_controls_of}
@@ -13,10 +11,12 @@ use Rattle.filter.specs.Core.{core_of}
 use Rattle.filter.specs.Plain.{Plain, plain_step}
 use Rattle.filter.proofs.Demand3.{event_steps}
 use Rattle.run.specs.Run.{Ran, stopped, went, play_of}
+use Rattle.answers.specs.Answers.{done}
+use Rattle.std.specs.Prelude.{is_ok}
 
 pub record Good (lent : Lent) (s : State) : Type 0 where
   pub valid : valid_of s ≡ true
-  pub judged : judge_controls_of lent.bundle s ≡ Done
+  pub judged : judge_controls_of lent.bundle s ≡ done
 
 module _ (lent : Lent) where
   pub good_step : (s : State) (e : Event) → Good lent s → Good lent (plain_step lent s e).state
@@ -29,7 +29,7 @@ module _ (lent : Lent) where
   good_play s [] g = g
   good_play s (e ∷ es) g =
       let p = plain_step lent s e in
-      go (is_done_of p.answer) p (play_of lent p.state es) (good_play p.state es (good_step s e g))
+      go (is_ok p.answer) p (play_of lent p.state es) (good_play p.state es (good_step s e g))
     where
       go : (d : Bool) (p : Plain) (r : Ran) → Good lent r.state → Good lent (cond d (went p r) (stopped p.answer s)).state
       go true p r h = h

@@ -7,9 +7,6 @@ use mathlib.Core.Bool.{Bool, true, false, not, cond, true≢false}
 use mathlib.Core.List.{List, [], ◌∷◌, ◌++◌}
 use lib.ListN.{length, drop, length-append}
 use lib.Ieee.{Float}
-use Rattle.answers.specs.declared.Answer.{Answer}
-use Rattle.answers.specs.declared.Answer.TheVariants.{Done}
-use Rattle.answers.specs.Answers.{is_done_of}
 use Rattle.wire.specs.Wire.{put_at}
 use Rattle.wire.proofs.Laws.{length-put_at, put_at_nil, put_at-join}
 use Rattle.integrator.specs.declared.IntegratorState.{IntegratorState}
@@ -26,14 +23,11 @@ use Rattle.refresh.specs.Refresh.{state_gain_of}
 use Rattle.refresh.proofs.Parts.{state_gain}
 use Rattle.sample.specs.declared.Outputs.{Outputs}
 use Rattle.sample.specs.declared.Sampled.{Sampled}
-use Rattle.sample.specs.declared.Sampled.TheVariants.{Taken, Refused}
 use Rattle.sample.specs.Sample.{summer_slot_of, filter_sample_of}
 use Rattle.sample.specs.Parts.{rest_of}
 use Rattle.sample.proofs.Parts.{parts_are_sample}
 use Rattle.script.specs.declared.Event.{Event}
 use Rattle.script.specs.declared.Event.TheVariants.{CutoffLow, CutoffHigh, Routing, Mode, Sample, Reset}
-use Rattle.script.specs.declared.DecodedEvent.{DecodedEvent}
-use Rattle.script.specs.declared.DecodedEvent.TheVariants.{Readable, Unreadable}
 use Rattle.script.specs.Script.{event_at, all_readable, events_in, sample_count_of, samples_of}
 use Rattle.script.proofs.Laws.{slices_from, all_next, events_next, all_stop, events_end}
 use Rattle.script.proofs.Cut.{length_slices, length_events}
@@ -52,6 +46,9 @@ use Rattle.run.specs.Parts.{parts_of, cache_of_parts, samples_from, moves_end, r
 use Rattle.run.proofs.Bytes.{length_outputs, outputs_append}
 use Rattle.run.proofs.Good.{Good, good_step}
 use Rattle.run.proofs.Moves.{MovesLaw, moves_law, moves_some}
+use Rattle.answers.specs.Answers.{Answer, done}
+use Rattle.std.specs.Prelude.{is_ok, Result, Ok, Err, Option, Some, None}
+use Rattle.answers.specs.declared.Refusal.{Refusal}
 
 -- ---- the events left
 
@@ -66,14 +63,14 @@ module _ (script : List ℕ) (count : ℕ) where
       more : i < count
       more = omega arith
 
-      go : (d : DecodedEvent) → event_at script (8 + 12 * i) ≡ d
+      go : (d : Option Event) → event_at script (8 + 12 * i) ≡ d
           → (i + 1 + n ≤ count → all_readable (slices_from script count (i + 1)) ≡ true → (all_readable (slices_from script count (i + 1 + n)) ≡ true) × (drop n (left (i + 1)) ≡ left (i + 1 + n)))
           → (all_readable (slices_from script count (i + suc n)) ≡ true) × (drop (suc n) (left i) ≡ left (i + suc n))
-      go (Readable e) d on =
+      go (Some e) d on =
           let p = on (omega arith) (sym (all_next script count i more e d) ∙ r) in
           let k : i + 1 + n ≡ i + suc n = omega arith in
           rw (← k) (p.0, ap (drop (suc n)) (events_next script count i more e d) ∙ p.1)
-      go Unreadable d on = absurd (true≢false (sym r ∙ all_stop script count i more d))
+      go None d on = absurd (true≢false (sym r ∙ all_stop script count i more d))
 
   pub length_left : (i : ℕ) → all_readable (slices_from script count i) ≡ true → length (left i) ≡ count - i
   length_left i r = length_events (slices_from script count i) r ∙ length_slices (count - i) (drop (8 + 12 * i) script)
@@ -88,7 +85,7 @@ module _ (lent : Lent) where
   abbrev row_at : State → IntegratorState → List Event → Samples
   row_at s i es = row_of lent.bundle lent.curves (fresh_topology_of s) (controls_of lent.bundle s) s.registers.mode i es
 
-  abbrev fresh_sample : State → Float → Float → Sampled
+  abbrev fresh_sample : State → Float → Float → Result Sampled Refusal
   fresh_sample s sum energy =
       let t = fresh_topology_of s in
       filter_sample_of lent.bundle lent.curves (summer_slot_of t) t (controls_of lent.bundle s) s.registers.mode s.integrator sum energy
@@ -102,7 +99,7 @@ module _ (lent : Lent) where
   -- the row, and then the rest if it was not refused
   abbrev row_then : State → Samples → Ran → Ran
   row_then s w r =
-      cond (is_done_of w.answer)
+      cond (is_ok w.answer)
       (record { answer = r.answer; events = w.events + r.events; samples = w.outputs ++ r.samples; state = r.state })
       (record { answer = w.answer; events = w.events; samples = w.outputs; state = resumed s w })
 
@@ -113,10 +110,10 @@ module _ (lent : Lent) where
     pub equal : w.events ≡ length w.outputs
     pub rest : samples_of es ≡ length w.outputs + samples_of (drop w.events es)
     -- where it is not refused, no sample is next
-    pub ends : (e : Event) (fs : List Event) → is_done_of w.answer ≡ true → drop w.events es ≡ e ∷ fs → (asked_of e).sample ≡ false
+    pub ends : (e : Event) (fs : List Event) → is_ok w.answer ≡ true → drop w.events es ≡ e ∷ fs → (asked_of e).sample ≡ false
 
   module _ (s : State) (good : Good lent s) where
-    quiet_row : (es : List Event) → ((e : Event) (fs : List Event) → es ≡ e ∷ fs → (asked_of e).sample ≡ false) → RowLaw s es (no_samples Done s.integrator)
+    quiet_row : (es : List Event) → ((e : Event) (fs : List Event) → es ≡ e ∷ fs → (asked_of e).sample ≡ false) → RowLaw s es (no_samples done s.integrator)
     quiet_row es h =
         record {
           same = rw (zero-add (play s es).events) refl;
@@ -127,7 +124,7 @@ module _ (lent : Lent) where
           ends = λ e fs d p. h e fs p;
         }
 
-    refused_row : (e : Event) (es : List Event) (answer : Answer) → is_done_of answer ≡ false → (plain_step lent s e).answer ≡ answer → RowLaw s (e ∷ es) (no_samples answer s.integrator)
+    refused_row : (e : Event) (es : List Event) (answer : Answer) → is_ok answer ≡ false → (plain_step lent s e).answer ≡ answer → RowLaw s (e ∷ es) (no_samples answer s.integrator)
     unfolding play_of
     refused_row e es answer off is =
         record {
@@ -139,13 +136,13 @@ module _ (lent : Lent) where
           ends = λ f fs d p. absurd (true≢false (sym d ∙ off));
         }
 
-    taken_row : (sum energy : _) (es : List Event) (o : Outputs) (j : IntegratorState) → plain_step lent s (Sample sum energy) ≡ record { answer = Done; sample = o ∷ []; state = with_integrator s j }
+    taken_row : (sum energy : _) (es : List Event) (o : Outputs) (j : IntegratorState) → plain_step lent s (Sample sum energy) ≡ record { answer = done; sample = o ∷ []; state = with_integrator s j }
         → (w : Samples) → RowLaw (with_integrator s j) es w → RowLaw s (Sample sum energy ∷ es) (one_more o w)
     unfolding play_of samples_of
     taken_row sum energy es o j is w law =
         let within = law.within in
         record {
-          same = rw (is) (ap (went (record { answer = Done; sample = o ∷ []; state = with_integrator s j })) law.same ∙ on (is_done_of w.answer) (play (resumed s w) (drop w.events es)));
+          same = rw (is) (ap (went (record { answer = done; sample = o ∷ []; state = with_integrator s j })) law.same ∙ on (is_ok w.answer) (play (resumed s w) (drop w.events es)));
           good = law.good;
           within = omega arith;
           equal = ap suc law.equal;
@@ -154,7 +151,7 @@ module _ (lent : Lent) where
         }
       where
         on : (d : Bool) (r : Ran)
-            → went (record { answer = Done; sample = o ∷ []; state = with_integrator s j })
+            → went (record { answer = done; sample = o ∷ []; state = with_integrator s j })
             (cond d (record { answer = r.answer; events = w.events + r.events; samples = w.outputs ++ r.samples; state = r.state })
             (record { answer = w.answer; events = w.events; samples = w.outputs; state = resumed s w }))
             ≡ cond d (record { answer = r.answer; events = suc w.events + r.events; samples = (o ∷ w.outputs) ++ r.samples; state = r.state })
@@ -167,9 +164,9 @@ module _ (lent : Lent) where
   unfolding controls_of
   moved s j es law = law
 
-  off : (x : Sampled) (answer : Answer) → refuses x ≡ true → x ≡ Refused answer → is_done_of answer ≡ false
+  off : (x : Result Sampled Refusal) (answer : Answer) → refuses x ≡ true → x ≡ Err answer → is_ok answer ≡ false
   unfolding refuses
-  off x answer r h = go (is_done_of answer) (sym (ap refuses h) ∙ r)
+  off x answer r h = go (is_ok answer) (sym (ap refuses h) ∙ r)
     where
       go : (d : Bool) → not d ≡ true → d ≡ false
       go true n = absurd (true≢false (sym n))
@@ -186,26 +183,26 @@ module _ (lent : Lent) where
   row_law s (Sample sum energy ∷ es) good =
       go (fresh_sample s sum energy) refl (λ t. row_law t es)
     where
-      plain : (x : Sampled) → fresh_sample s sum energy ≡ x → plain_step lent s (Sample sum energy) ≡ plain_taken s x
+      plain : (x : Result Sampled Refusal) → fresh_sample s sum energy ≡ x → plain_step lent s (Sample sum energy) ≡ plain_taken s x
       plain x h = sym (sample_plain lent s good.valid good.judged sum energy) ∙ ap (plain_taken s) h
 
-      go : (x : Sampled) → fresh_sample s sum energy ≡ x
+      go : (x : Result Sampled Refusal) → fresh_sample s sum energy ≡ x
           → ((t : State) → Good lent t → RowLaw t es (fresh_row t es))
           → RowLaw s (Sample sum energy ∷ es) (row_on (λ j. row_at s j es) s.integrator x)
-      go (Taken o j) h on =
-          let p = plain (Taken o j) h in
+      go (Ok (record { outputs = o; state = j })) h on =
+          let p = plain (Ok (record { outputs = o; state = j })) h in
           let g : Good lent (with_integrator s j) = subst (λ (x : Plain). Good lent x.state) p (good_step lent s (Sample sum energy) good) in
           taken_row s good sum energy es o j p (row_at s j es) (moved s j es (on (with_integrator s j) g))
-      go (Refused answer) h on =
+      go (Err answer) h on =
           refused_row s good (Sample sum energy) es answer (off _ answer (sample_refuses lent.bundle lent.curves _ _ _ _ s.integrator sum energy) h)
-          (ap (λ (x : Plain). x.answer) (plain (Refused answer) h))
+          (ap (λ (x : Plain). x.answer) (plain (Err answer) h))
 
 -- ---- samples that an event gives
 
 change_quiet : (lent : Lent) (s t : State) → (plain_change lent s t).sample ≡ []
-change_quiet lent s t = go (is_done_of (judge_change_of lent.bundle t))
+change_quiet lent s t = go (is_ok (judge_change_of lent.bundle t))
   where
-    go : (d : Bool) → ◌≡◌ {A = List Outputs} (cond d (record { answer = Done; sample = []; state = t }) (refused_at s (judge_change_of lent.bundle t))).sample []
+    go : (d : Bool) → ◌≡◌ {A = List Outputs} (cond d (record { answer = done; sample = []; state = t }) (refused_at s (judge_change_of lent.bundle t))).sample []
     go true = refl
     go false = refl
 
@@ -217,16 +214,16 @@ no_sample lent s (Mode v) h = change_quiet lent s (write_mode_and_volume_of s v)
 no_sample lent s (Sample sum energy) h = absurd (true≢false h)
 no_sample lent s Reset h = change_quiet lent s starting_state
 
-sample_few : (s : State) (d : Bool) (x : Sampled) (a : Answer) → length (cond d (plain_taken s x) (refused_at s a)).sample ≤ 1
-sample_few s true (Taken o j) a = omega arith
-sample_few s true (Refused b) a = omega arith
+sample_few : (s : State) (d : Bool) (x : Result Sampled Refusal) (a : Answer) → length (cond d (plain_taken s x) (refused_at s a)).sample ≤ 1
+sample_few s true (Ok (record { outputs = o; state = j })) a = omega arith
+sample_few s true (Err b) a = omega arith
 sample_few s false x a = omega arith
 
 step_few : (lent : Lent) (s : State) (e : Event) → length (plain_step lent s e).sample ≤ sample_count_of e
 unfolding plain_sample
 step_few lent s (Sample sum energy) =
     let judged = judge_plain lent s sum energy in
-    sample_few s (is_done_of judged) (plain_sampled lent s sum energy) judged
+    sample_few s (is_ok judged) (plain_sampled lent s sum energy) judged
 step_few lent s (CutoffLow v) = rw (no_sample lent s (CutoffLow v) refl) (omega arith)
 step_few lent s (CutoffHigh v) = rw (no_sample lent s (CutoffHigh v) refl) (omega arith)
 step_few lent s (Routing v) = rw (no_sample lent s (Routing v) refl) (omega arith)
@@ -236,7 +233,7 @@ step_few lent s Reset = rw (no_sample lent s Reset refl) (omega arith)
 pub played_few : (lent : Lent) (s : State) (es : List Event) → length (play_of lent s es).samples ≤ samples_of es
 unfolding play_of samples_of
 played_few lent s [] = omega arith
-played_few lent s (e ∷ es) = go (is_done_of (plain_step lent s e).answer) (played_few lent (plain_step lent s e).state es)
+played_few lent s (e ∷ es) = go (is_ok (plain_step lent s e).answer) (played_few lent (plain_step lent s e).state es)
   where
     go : (d : Bool) → length (play_of lent (plain_step lent s e).state es).samples ≤ samples_of es
         → length (cond d (went (plain_step lent s e) (play_of lent (plain_step lent s e).state es)) (stopped (plain_step lent s e).answer s)).samples ≤ sample_count_of e + samples_of es
@@ -260,14 +257,14 @@ row_same_samples bundle curves t c d mode same i [] = refl
 row_same_samples bundle curves t c d mode same i (e ∷ es) =
     let x = (asked_of e).input_sum in
     let y = (asked_of e).source_energy in
-    ap (λ (z : Sampled). cond (asked_of e).sample (row_on (λ j. row_of bundle curves t c mode j es) i z) (no_samples Done i)) (same i x y)
-    ∙ ap (λ (z : Samples). cond (asked_of e).sample z (no_samples Done i))
+    ap (λ (z : Result Sampled Refusal). cond (asked_of e).sample (row_on (λ j. row_of bundle curves t c mode j es) i z) (no_samples done i)) (same i x y)
+    ∙ ap (λ (z : Samples). cond (asked_of e).sample z (no_samples done i))
     (on (filter_sample_of bundle curves (summer_slot_of t) t d mode i x y) (λ j. row_same_samples bundle curves t c d mode same j es))
   where
-    on : (z : Sampled) → ((j : IntegratorState) → row_of bundle curves t c mode j es ≡ row_of bundle curves t d mode j es)
+    on : (z : Result Sampled Refusal) → ((j : IntegratorState) → row_of bundle curves t c mode j es ≡ row_of bundle curves t d mode j es)
         → row_on (λ j. row_of bundle curves t c mode j es) i z ≡ row_on (λ j. row_of bundle curves t d mode j es) i z
-    on (Taken o j) later = ap (one_more o) (later j)
-    on (Refused answer) later = refl
+    on (Ok (record { outputs = o; state = j })) later = ap (one_more o) (later j)
+    on (Err answer) later = refl
 
 small : (s : State) → valid_of s ≡ true → s.registers.resonance < 256
 small s v = let r = (valid_ranges s v).resonance in omega arith
@@ -278,7 +275,7 @@ parts_sample : (lent : Lent) (s : State) → Good lent s → (j : IntegratorStat
 unfolding parts_of controls_of refresh_filter_controls_of
 parts_sample lent s good j sum energy =
     sym (parts_are_sample lent.bundle lent.curves (summer_slot_of (fresh_topology_of s)) (fresh_topology_of s) (cache_of_parts (parts_of lent.bundle s)) s.registers.mode j sum energy)
-    ∙ rw (state_gain lent.bundle s (small s good.valid) (ap is_done_of good.judged))
+    ∙ rw (state_gain lent.bundle s (small s good.valid) (ap is_ok good.judged))
     (parts_are_sample lent.bundle lent.curves (summer_slot_of (fresh_topology_of s)) (fresh_topology_of s) (controls_of lent.bundle s) s.registers.mode j sum energy)
 
 -- ---- the loop
@@ -317,9 +314,9 @@ module _ (lent : Lent) (script : List ℕ) (count : ℕ) (s₀ : State) (out₀ 
   sofar_start g r m = record { within = omega arith; few = omega arith; readable = r; good = g; long = refl; room = omega arith; ends = refl; puts = refl }
 
   module _ (out : List ℕ) (s : State) (samples i : ℕ) (far : Sofar out s samples i) where
-    pub at_end : count ≤ i → Finished Done i samples s out
+    pub at_end : count ≤ i → Finished done i samples s out
     unfolding play_of
-    at_end h = finishes Done i samples s out (play_of lent s (remaining i)) (ap (play_of lent s) (events_end script count i h)) far.ends far.puts
+    at_end h = finishes done i samples s out (play_of lent s (remaining i)) (ap (play_of lent s) (events_end script count i h)) far.ends far.puts
 
     -- the samples in a row from here
     abbrev row : Samples
@@ -341,7 +338,7 @@ module _ (lent : Lent) (script : List ℕ) (count : ℕ) (s₀ : State) (out₀ 
     on : (all_readable (slices_from script count (i + row.events)) ≡ true) × (drop row.events (remaining i) ≡ remaining (i + row.events))
     on = later script count row.events i row_within far.readable
 
-    module _ (d : is_done_of row.answer ≡ true) where
+    module _ (d : is_ok row.answer ≡ true) where
       abbrev then : Ran
       then = play_of lent (with_integrator s row.integrator) (remaining (i + row.events))
 
@@ -378,12 +375,12 @@ module _ (lent : Lent) (script : List ℕ) (count : ℕ) (s₀ : State) (out₀ 
           }
 
       -- the next event is no sample
-      pub row_next : (e : Event) → i + row.events < count → event_at script (8 + 12 * (i + row.events)) ≡ Readable e → (asked_of e).sample ≡ false
+      pub row_next : (e : Event) → i + row.events < count → event_at script (8 + 12 * (i + row.events)) ≡ Some e → (asked_of e).sample ≡ false
       row_next e more is =
           law.ends e (remaining (i + row.events + 1)) d
           (on.1 ∙ events_next script count (i + row.events) more e is)
 
-    pub row_stopped : is_done_of row.answer ≡ false
+    pub row_stopped : is_ok row.answer ≡ false
         → Finished row.answer (i + row.events) (samples + length row.outputs) (with_integrator s row.integrator) (put_at out (16 * samples) row_bytes)
     row_stopped d =
         let is : play_of lent s (remaining i) ≡ record { answer = row.answer; events = row.events; samples = row.outputs; state = with_integrator s row.integrator } = law.same ∙ rw d refl in
@@ -406,7 +403,7 @@ module _ (lent : Lent) (script : List ℕ) (count : ℕ) (s₀ : State) (out₀ 
     onward : (all_readable (slices_from script count (i + moves.events)) ≡ true) × (drop moves.events (remaining i) ≡ remaining (i + moves.events))
     onward = later script count moves.events i moves_within far.readable
 
-    pub moves_done : is_done_of moves.answer ≡ true → Sofar out moves.state samples (i + moves.events)
+    pub moves_done : is_ok moves.answer ≡ true → Sofar out moves.state samples (i + moves.events)
     moves_done d =
         let r = play_of lent moves.state (remaining (i + moves.events)) in
         let same : play_of lent s (remaining i) ≡ record { answer = r.answer; events = moves.events + r.events; samples = r.samples; state = r.state } = moves_are.same ∙ rw (d, onward.1) refl in
@@ -425,7 +422,7 @@ module _ (lent : Lent) (script : List ℕ) (count : ℕ) (s₀ : State) (out₀ 
           puts = sym (ap (λ (x : Ran). put_at out (16 * samples) (sample_bytes x.samples)) same) ∙ far.puts;
         }
 
-    pub moves_stopped : is_done_of moves.answer ≡ false → Finished moves.answer (i + moves.events) samples moves.state out
+    pub moves_stopped : is_ok moves.answer ≡ false → Finished moves.answer (i + moves.events) samples moves.state out
     unfolding sample_bytes
     moves_stopped d =
         let is : play_of lent s (remaining i) ≡ record { answer = moves.answer; events = moves.events; samples = []; state = moves.state } = moves_are.same ∙ rw d refl in (
@@ -433,7 +430,7 @@ module _ (lent : Lent) (script : List ℕ) (count : ℕ) (s₀ : State) (out₀ 
           sym (ap (λ (r : Ran). put_at out (16 * samples) (sample_bytes r.samples)) is ∙ put_at_nil out (16 * samples)) ∙ far.puts,
         )
 
-    pub readable_here : i < count → event_at script (8 + 12 * i) ≡ Unreadable → ⊥
+    pub readable_here : i < count → event_at script (8 + 12 * i) ≡ None → ⊥
     readable_here more h = true≢false (sym far.readable ∙ all_stop script count i more h)
 
   -- ---- as the code has it
@@ -450,7 +447,7 @@ module _ (lent : Lent) (script : List ℕ) (count : ℕ) (s₀ : State) (out₀ 
 
     -- a row of samples
     module _ {r : Row} (is_row : r ≡ row_end i samples shared) {after : List ℕ} (is_after : after ≡ put_at out (16 * samples) (sample_bytes shared.outputs)) {d : Bool}
-        (is_d : d ≡ is_done_of r.answer) where
+        (is_d : d ≡ is_ok r.answer) where
       abbrev w : Samples
       w = row out s samples i far
 
@@ -460,8 +457,8 @@ module _ (lent : Lent) (script : List ℕ) (count : ℕ) (s₀ : State) (out₀ 
       after_is : after ≡ put_at out (16 * samples) (sample_bytes w.outputs)
       after_is = is_after ∙ ap (λ (x : Samples). put_at out (16 * samples) (sample_bytes x.outputs)) row_fresh
 
-      d_is : (b : Bool) → d ≡ b → is_done_of w.answer ≡ b
-      d_is b h = ap (λ (x : Row). is_done_of x.answer) (sym r_is) ∙ sym is_d ∙ h
+      d_is : (b : Bool) → d ≡ b → is_ok w.answer ≡ b
+      d_is b h = ap (λ (x : Row). is_ok x.answer) (sym r_is) ∙ sym is_d ∙ h
 
       pub row_goes : d ≡ true → Sofar after (with_integrator s r.integrator) r.samples r.events
       row_goes h = rw (r_is, after_is) (row_done out s samples i far (d_is true h))
@@ -470,7 +467,7 @@ module _ (lent : Lent) (script : List ℕ) (count : ℕ) (s₀ : State) (out₀ 
       row_stops h = rw (r_is, after_is) (row_stopped out s samples i far (d_is false h))
 
       -- it has one sample at least
-      pub row_moves : i < count → (e : Event) → event_at script (8 + 12 * i) ≡ Readable e → {ask : Asked} → ask ≡ asked_of e → ask.sample ≡ true → d ≡ true → i < r.events
+      pub row_moves : i < count → (e : Event) → event_at script (8 + 12 * i) ≡ Some e → {ask : Asked} → ask ≡ asked_of e → ask.sample ≡ true → d ≡ true → i < r.events
       row_moves more e at asks wanted h = rw r_is (go w.events refl)
         where
           go : (n : ℕ) → w.events ≡ n → i < i + n
@@ -480,9 +477,9 @@ module _ (lent : Lent) (script : List ℕ) (count : ℕ) (s₀ : State) (out₀ 
           go (suc n) z = omega arith
 
     -- a row of other events
-    module _ {m : Moved} (is_m : m ≡ moves_end lent.bundle i (moves_of lent.bundle s (remaining i))) {d : Bool} (is_d : d ≡ is_done_of m.answer) where
-      m_is : (b : Bool) → d ≡ b → is_done_of (moves_of lent.bundle s (remaining i)).answer ≡ b
-      m_is b h = ap (λ (x : Moved). is_done_of x.answer) (sym is_m) ∙ sym is_d ∙ h
+    module _ {m : Moved} (is_m : m ≡ moves_end lent.bundle i (moves_of lent.bundle s (remaining i))) {d : Bool} (is_d : d ≡ is_ok m.answer) where
+      m_is : (b : Bool) → d ≡ b → is_ok (moves_of lent.bundle s (remaining i)).answer ≡ b
+      m_is b h = ap (λ (x : Moved). is_ok x.answer) (sym is_m) ∙ sym is_d ∙ h
 
       pub moves_go : d ≡ true → Sofar out m.state samples m.events
       moves_go h = rw is_m (moves_done out s samples i far (m_is true h))
@@ -491,15 +488,15 @@ module _ (lent : Lent) (script : List ℕ) (count : ℕ) (s₀ : State) (out₀ 
       moves_stop h = rw is_m (moves_stopped out s samples i far (m_is false h))
 
       -- it has one event at least
-      pub moves_move : i < count → (e : Event) → event_at script (8 + 12 * i) ≡ Readable e → {ask : Asked} → ask ≡ asked_of e → ask.sample ≡ false → d ≡ true → i < m.events
+      pub moves_move : i < count → (e : Event) → event_at script (8 + 12 * i) ≡ Some e → {ask : Asked} → ask ≡ asked_of e → ask.sample ≡ false → d ≡ true → i < m.events
       moves_move more e at asks other h =
           let next = events_next script count i more e at in
           let some = moves_some lent s e (remaining (i + 1)) (ap (λ (a : Asked). a.sample) (sym asks) ∙ other)
-          (ap (λ (es : List Event). is_done_of (moves_of lent.bundle s es).answer) (sym next) ∙ m_is true h) in
+          (ap (λ (es : List Event). is_ok (moves_of lent.bundle s es).answer) (sym next) ∙ m_is true h) in
           let here = subst (λ (es : List Event). zero < (moves_of lent.bundle s es).events) (sym next) some in
           rw is_m (omega arith)
 
-    pub unreadable : i < count → event_at script (8 + 12 * i) ≡ Unreadable → ⊥
+    pub unreadable : i < count → event_at script (8 + 12 * i) ≡ None → ⊥
     unreadable = readable_here out s samples i far
 
   -- ---- one turn: other events in a row, then samples in a row
@@ -512,25 +509,25 @@ module _ (lent : Lent) (script : List ℕ) (count : ℕ) (s₀ : State) (out₀ 
     first_empty e a next = rw (is_m, next, a) (add-zero i)
 
     -- the two rows are not both empty
-    pub turn_moves : i < count → {d : Bool} → d ≡ is_done_of m.answer → d ≡ true → (then : Sofar out m.state samples m.events)
+    pub turn_moves : i < count → {d : Bool} → d ≡ is_ok m.answer → d ≡ true → (then : Sofar out m.state samples m.events)
         → {r : Row} → r ≡ row_end m.events samples (samples_from lent.bundle lent.curves m.state script count m.events) → {after : List ℕ}
         → after ≡ put_at out (16 * samples) (sample_bytes (samples_from lent.bundle lent.curves m.state script count m.events).outputs)
-        → {f : Bool} → f ≡ is_done_of r.answer → f ≡ true → i < r.events
+        → {f : Bool} → f ≡ is_ok r.answer → f ≡ true → i < r.events
     turn_moves more is_d d then {r} is_r is_after is_f f = go (event_at script (8 + 12 * i)) refl
       where
         onto : m.events ≤ r.events
         onto = rw is_r (omega arith)
 
-        sampled : (e : Event) → event_at script (8 + 12 * i) ≡ Readable e → (b : Bool) → (asked_of e).sample ≡ b → i < r.events
+        sampled : (e : Event) → event_at script (8 + 12 * i) ≡ Some e → (b : Bool) → (asked_of e).sample ≡ b → i < r.events
         sampled e at true a =
             let here : m.events ≡ i = first_empty e a (events_next script count i more e at) in
             let moves = row_moves out m.state samples m.events then is_r is_after is_f (rw here more) e (rw here at) refl a f in
             omega arith
         sampled e at false a = let moves = moves_move out s samples i far is_m is_d more e at refl a d in omega (arith, onto)
 
-        go : (x : DecodedEvent) → event_at script (8 + 12 * i) ≡ x → i < r.events
-        go (Readable e) at = sampled e at (asked_of e).sample refl
-        go Unreadable at = absurd (unreadable out s samples i far more at)
+        go : (x : Option Event) → event_at script (8 + 12 * i) ≡ x → i < r.events
+        go (Some e) at = sampled e at (asked_of e).sample refl
+        go None at = absurd (unreadable out s samples i far more at)
 
   -- ---- what the loop keeps beside: the mode's gain, and the summer's rest at the count that it was worked out for
 

@@ -7,9 +7,8 @@ use mathlib.Core.Bool.{Bool, true, false, cond, true≢false}
 use mathlib.Core.List.{List, [], ◌∷◌}
 use lib.ListN.{length, drop}
 use lib.Ieee.{Float}
-use Rattle.answers.specs.declared.Answer.{Answer}
-use Rattle.answers.specs.declared.Answer.TheVariants.{Done, Domain}
-use Rattle.answers.specs.Answers.{unless_of, is_done_of}
+use Rattle.answers.specs.declared.Refusal.TheVariants.{Domain}
+use Rattle.answers.specs.Answers.{unless_of, Answer, done}
 use Rattle.answers.proofs.Laws.{done_is}
 use Rattle.transients.specs.declared.TransientState.{TransientState}
 use Rattle.transients.specs.Transients.{charge_of, finite_charges_of}
@@ -23,7 +22,6 @@ use Rattle.refresh.specs.Refresh.{state_gain_of, judged_of}
 use Rattle.refresh.proofs.Parts.{judged_by_registers}
 use Rattle.script.specs.declared.Event.{Event}
 use Rattle.script.specs.declared.Event.TheVariants.{CutoffLow, CutoffHigh, Routing, Mode, Sample, Reset}
-use Rattle.script.specs.declared.DecodedEvent.TheVariants.{Readable, Unreadable}
 use Rattle.script.specs.Script.{event_at, all_readable, events_in, sample_count_of, samples_of}
 use Rattle.script.proofs.Laws.{slices_from, all_next, events_next, all_stop, events_end}
 use Rattle.filter.specs.Lent.{Lent}
@@ -36,6 +34,7 @@ use Rattle.run.specs.Rows.{Moves, asked_of, next_of, charges_of, resets_of, no_m
 use Rattle.run.specs.Parts.{From, done_with, moves_end}
 use Rattle.run.proofs.Changes.{next_valid, with_next, quiet_next, charged_next, reset_next, controls_judged, controls_refused, quiet_judged, charge_judged, plain_is}
 use Rattle.run.proofs.Good.{Good}
+use Rattle.std.specs.Prelude.{Err, is_ok, Some, None}
 
 -- ---- the loop
 
@@ -51,7 +50,7 @@ module _ (bundle script : List ℕ) (count start : ℕ) (from : State) where
     pub within : i ≤ count
     pub readable : all_readable (slices_from script count i) ≡ true
     pub valid : valid_of s ≡ true
-    pub judged : judge_controls_of bundle s ≡ Done
+    pub judged : judge_controls_of bundle s ≡ done
     pub gained : g ≡ state_gain_of bundle s
     pub ends : moves_end bundle i (moves s i) ≡ moves_end bundle start (moves from start)
 
@@ -68,29 +67,29 @@ module _ (bundle script : List ℕ) (count start : ℕ) (from : State) where
     stops : (answer : Answer) → moves s i ≡ no_moves answer s → Ends answer
     stops answer h = rw far.gained (sym (ap (moves_end bundle i) h ∙ rw (add-zero i) refl) ∙ far.ends)
 
-    pub at_end : count ≤ i → Ends Done
+    pub at_end : count ≤ i → Ends done
     unfolding moves_of
-    at_end h = stops Done (ap (moves_of bundle s) (events_end script count i h))
+    at_end h = stops done (ap (moves_of bundle s) (events_end script count i h))
 
     module _ (more : i < count) where
-      pub unreadable : event_at script (8 + 12 * i) ≡ Unreadable → ⊥
+      pub unreadable : event_at script (8 + 12 * i) ≡ None → ⊥
       unreadable h = true≢false (sym far.readable ∙ all_stop script count i more h)
 
-      module _ (e : Event) (is_e : event_at script (8 + 12 * i) ≡ Readable e) {ask : Asked} (asks : ask ≡ asked_of e) where
+      module _ (e : Event) (is_e : event_at script (8 + 12 * i) ≡ Some e) {ask : Asked} (asks : ask ≡ asked_of e) where
         asked_is : (b : Bool) → ask.sample ≡ b → (asked_of e).sample ≡ b
         asked_is b h = ap (λ (a : Asked). a.sample) (sym asks) ∙ h
 
         next : left i ≡ e ∷ left (i + 1)
         next = events_next script count i more e is_e
 
-        pub sampled : ask.sample ≡ true → Ends Done
+        pub sampled : ask.sample ≡ true → Ends done
         unfolding moves_of
-        sampled a = stops Done (ap (moves_of bundle s) next ∙ rw (asked_is true a) refl)
+        sampled a = stops done (ap (moves_of bundle s) next ∙ rw (asked_is true a) refl)
 
         module _ (other : ask.sample ≡ false) {r : FilterRegisters} (is_r : r ≡ (next_of (of_registers s.registers) e).registers) {j : Judged} (is_j : j ≡ judged_of bundle (of_registers r))
-            {d : Bool} (is_d : d ≡ is_done_of j.answer) where
+            {d : Bool} (is_d : d ≡ is_ok j.answer) where
           -- refused, with what is judged of the event
-          refuses : (answer : Answer) → answer ≡ judge_change_of bundle (next_of s e) → is_done_of answer ≡ false → Ends answer
+          refuses : (answer : Answer) → answer ≡ judge_change_of bundle (next_of s e) → is_ok answer ≡ false → Ends answer
           unfolding moves_of
           refuses answer is off = stops answer (ap (moves_of bundle s) next ∙ rw (asked_is false other, ← is, off) refl)
 
@@ -98,14 +97,14 @@ module _ (bundle script : List ℕ) (count start : ℕ) (from : State) where
           refused h = let off = sym is_d ∙ h in refuses j.answer (controls_refused s far.valid e is_r bundle is_j off) off
 
           module _ (done : d ≡ true) where
-            passed : is_done_of j.answer ≡ true
+            passed : is_ok j.answer ≡ true
             passed = sym is_d ∙ done
 
             -- the state after a turn, with the registers put in last
             abbrev after : State → State
             after x = with_next s far.valid e is_r x
 
-            goes : (x : State) → x ≡ next_of s e → judge_change_of bundle (next_of s e) ≡ Done → Sofar x j.gain (i + 1)
+            goes : (x : State) → x ≡ next_of s e → judge_change_of bundle (next_of s e) ≡ done → Sofar x j.gain (i + 1)
             unfolding moves_of
             goes x is judged =
                 let n = next_of s e in
@@ -125,7 +124,7 @@ module _ (bundle script : List ℕ) (count start : ℕ) (from : State) where
             module _ {charges : Bool} (is_charges : charges ≡ charges_of e) where
               -- what is known where the charges are moved or left: the event is judged, and but for a reset the state is the next one
               pub record Charged (x : State) : Type 0 where
-                pub judged : judge_change_of bundle (next_of s e) ≡ Done
+                pub judged : judge_change_of bundle (next_of s e) ≡ done
                 pub same : resets_of e ≡ false → after x ≡ next_of s e
 
               pub charge_none : charges ≡ false → {x : State} → x ≡ s → Charged x
@@ -170,7 +169,7 @@ module _ (lent : Lent) where
   -- the row, and then the rest if it was not refused
   abbrev moves_then : Moves → Ran → Ran
   moves_then m r =
-      cond (is_done_of m.answer)
+      cond (is_ok m.answer)
       (record { answer = r.answer; events = m.events + r.events; samples = r.samples; state = r.state })
       (record { answer = m.answer; events = m.events; samples = []; state = m.state })
 
@@ -181,29 +180,29 @@ module _ (lent : Lent) where
     pub rest : samples_of es ≡ samples_of (drop m.events es)
 
   module _ (s : State) (good : Good lent s) where
-    quiet : (es : List Event) → MovesLaw s es (no_moves Done s)
+    quiet : (es : List Event) → MovesLaw s es (no_moves done s)
     quiet es = record { same = rw (zero-add (play_of lent s es).events) refl; good = good; within = omega arith; rest = refl }
 
     module _ (e : Event) (es : List Event) (other : (asked_of e).sample ≡ false) where
       plain : plain_step lent s e ≡ plain_change lent s (next_of s e)
       plain = plain_is lent s e other
 
-      stop : is_done_of (judge_change_of lent.bundle (next_of s e)) ≡ false → MovesLaw s (e ∷ es) (no_moves (judge_change_of lent.bundle (next_of s e)) s)
+      stop : is_ok (judge_change_of lent.bundle (next_of s e)) ≡ false → MovesLaw s (e ∷ es) (no_moves (judge_change_of lent.bundle (next_of s e)) s)
       unfolding play_of
       stop h = record { same = rw (plain, h, h) refl; good = good; within = omega arith; rest = refl }
 
-      more : is_done_of (judge_change_of lent.bundle (next_of s e)) ≡ true → (m : Moves) → MovesLaw (next_of s e) es m → MovesLaw s (e ∷ es) (one_move m)
+      more : is_ok (judge_change_of lent.bundle (next_of s e)) ≡ true → (m : Moves) → MovesLaw (next_of s e) es m → MovesLaw s (e ∷ es) (one_move m)
       unfolding play_of samples_of
       more h m law =
           record {
-            same = rw (plain, h) (ap (went (record { answer = Done; sample = []; state = next_of s e })) law.same ∙ on (is_done_of m.answer) (play_of lent m.state (drop m.events es)));
+            same = rw (plain, h) (ap (went (record { answer = done; sample = []; state = next_of s e })) law.same ∙ on (is_ok m.answer) (play_of lent m.state (drop m.events es)));
             good = law.good;
             within = omega (arith, law.within);
             rest = omega (arith, law.rest, other_none e other);
           }
         where
           on : (d : Bool) (r : Ran)
-              → went (record { answer = Done; sample = []; state = next_of s e })
+              → went (record { answer = done; sample = []; state = next_of s e })
               (cond d (record { answer = r.answer; events = m.events + r.events; samples = r.samples; state = r.state })
               (record { answer = m.answer; events = m.events; samples = []; state = m.state }))
               ≡ cond d (record { answer = r.answer; events = suc m.events + r.events; samples = r.samples; state = r.state })
@@ -214,28 +213,28 @@ module _ (lent : Lent) where
   pub moves_law : (s : State) (es : List Event) → Good lent s → MovesLaw s es (moves_of lent.bundle s es)
   unfolding moves_of
   moves_law s [] good = quiet s good []
-  moves_law s (e ∷ es) good = go (asked_of e).sample refl (is_done_of (judge_change_of lent.bundle (next_of s e))) refl (λ g. moves_law (next_of s e) es g)
+  moves_law s (e ∷ es) good = go (asked_of e).sample refl (is_ok (judge_change_of lent.bundle (next_of s e))) refl (λ g. moves_law (next_of s e) es g)
     where
-      next_good : (asked_of e).sample ≡ false → is_done_of (judge_change_of lent.bundle (next_of s e)) ≡ true → Good lent (next_of s e)
+      next_good : (asked_of e).sample ≡ false → is_ok (judge_change_of lent.bundle (next_of s e)) ≡ true → Good lent (next_of s e)
       next_good a h =
           let p = change_parts lent.bundle (next_of s e) (done_is (judge_change_of lent.bundle (next_of s e)) h) in
           record { valid = next_valid s good.valid e p.1; judged = p.0 }
 
-      go : (a : Bool) → (asked_of e).sample ≡ a → (d : Bool) → is_done_of (judge_change_of lent.bundle (next_of s e)) ≡ d
+      go : (a : Bool) → (asked_of e).sample ≡ a → (d : Bool) → is_ok (judge_change_of lent.bundle (next_of s e)) ≡ d
           → (Good lent (next_of s e) → MovesLaw (next_of s e) es (moves_of lent.bundle (next_of s e) es))
-          → MovesLaw s (e ∷ es) (cond a (no_moves Done s) (cond d (one_move (moves_of lent.bundle (next_of s e) es)) (no_moves (judge_change_of lent.bundle (next_of s e)) s)))
+          → MovesLaw s (e ∷ es) (cond a (no_moves done s) (cond d (one_move (moves_of lent.bundle (next_of s e) es)) (no_moves (judge_change_of lent.bundle (next_of s e)) s)))
       go true a d h on = quiet s good (e ∷ es)
       go false a true h on = more s good e es a h (moves_of lent.bundle (next_of s e) es) (on (next_good a h))
       go false a false h on = stop s good e es a h
 
   -- where it is not refused, an event that is no sample is gone
-  pub moves_some : (s : State) (e : Event) (es : List Event) → (asked_of e).sample ≡ false → is_done_of (moves_of lent.bundle s (e ∷ es)).answer ≡ true
+  pub moves_some : (s : State) (e : Event) (es : List Event) → (asked_of e).sample ≡ false → is_ok (moves_of lent.bundle s (e ∷ es)).answer ≡ true
       → zero < (moves_of lent.bundle s (e ∷ es)).events
   unfolding moves_of
-  moves_some s e es other = rw other (go (is_done_of (judge_change_of lent.bundle (next_of s e))) refl)
+  moves_some s e es other = rw other (go (is_ok (judge_change_of lent.bundle (next_of s e))) refl)
     where
-      go : (d : Bool) → is_done_of (judge_change_of lent.bundle (next_of s e)) ≡ d
-          → is_done_of (cond d (one_move (moves_of lent.bundle (next_of s e) es)) (no_moves (judge_change_of lent.bundle (next_of s e)) s)).answer ≡ true
+      go : (d : Bool) → is_ok (judge_change_of lent.bundle (next_of s e)) ≡ d
+          → is_ok (cond d (one_move (moves_of lent.bundle (next_of s e) es)) (no_moves (judge_change_of lent.bundle (next_of s e)) s)).answer ≡ true
           → zero < (cond d (one_move (moves_of lent.bundle (next_of s e) es)) (no_moves (judge_change_of lent.bundle (next_of s e)) s)).events
       go true h done = omega arith
       go false h done = absurd (true≢false (sym done ∙ h))

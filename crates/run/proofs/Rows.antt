@@ -6,8 +6,6 @@ use mathlib.Core.Path.{◌≡◌, refl, sym, ap, ◌∙◌}
 use mathlib.Core.Bool.{Bool, true, false, cond, true≢false}
 use mathlib.Core.List.{List, [], ◌∷◌}
 use lib.ListN.{length}
-use Rattle.answers.specs.declared.Answer.{Answer}
-use Rattle.answers.specs.declared.Answer.TheVariants.{Done}
 use Rattle.wire.specs.Wire.{put_at}
 use Rattle.wire.proofs.Laws.{length-put_at, put_at_nil, put_at-join}
 use Rattle.integrator.specs.declared.IntegratorState.{IntegratorState}
@@ -15,7 +13,6 @@ use Rattle.mixing.specs.declared.MixingTopology.{MixingTopology}
 use Rattle.controls.specs.declared.ControlCache.{ControlCache}
 use Rattle.sample.specs.declared.Outputs.{Outputs}
 use Rattle.sample.specs.declared.Sampled.{Sampled}
-use Rattle.sample.specs.declared.Sampled.TheVariants.{Taken, Refused}
 use Rattle.sample.specs.Sample.{summer_slot_of, filter_sample_of}
 use Rattle.sample.specs.Parts.{cache_of, rest_of, sample_from_parts_of}
 use Rattle.sample.proofs.Parts.{parts_are_sample}
@@ -26,7 +23,6 @@ use Rattle.run.specs.Parts.{parts_of, cache_of_parts}
 use lib.Ieee.{Float}
 use Rattle.script.specs.declared.Event.{Event}
 use Rattle.script.specs.declared.Event.TheVariants.{CutoffLow, CutoffHigh, Routing, Mode, Sample, Reset}
-use Rattle.script.specs.declared.DecodedEvent.TheVariants.{Readable, Unreadable}
 use Rattle.script.specs.Script.{event_at, all_readable, events_in, sample_count_of, samples_of}
 use Rattle.script.proofs.Laws.{slices_from, all_next, events_next, all_stop, events_end}
 use Rattle.run.specs.declared.Asked.{Asked}
@@ -34,6 +30,9 @@ use Rattle.run.specs.declared.Row.{Row}
 use Rattle.run.specs.Run.{output_bytes, sample_bytes}
 use Rattle.run.specs.Rows.{Samples, asked_of, sample_first, no_samples, one_more, row_on, row_of, row_end}
 use Rattle.run.proofs.Bytes.{length_outputs, length_output}
+use Rattle.answers.specs.Answers.{Answer, done}
+use Rattle.std.specs.Prelude.{Result, Ok, Err, Some, None}
+use Rattle.answers.specs.declared.Refusal.{Refusal}
 
 -- ---- a sample on the parts
 
@@ -66,22 +65,22 @@ module _ (bundle curves : List ℕ) (t : MixingTopology) (c : ControlCache) (mod
 
   -- one sample at the front
   module _ (i : IntegratorState) (e : Event) (es : List Event) where
-    abbrev sampled : Sampled
+    abbrev sampled : Result Sampled Refusal
     sampled = filter_sample_of bundle curves (summer_slot_of t) t c mode i (asked_of e).input_sum (asked_of e).source_energy
 
-    row_taken : (asked_of e).sample ≡ true → (o : Outputs) (j : IntegratorState) → sampled ≡ Taken o j → row i (e ∷ es) ≡ one_more o (row j es)
+    row_taken : (asked_of e).sample ≡ true → (o : Outputs) (j : IntegratorState) → sampled ≡ Ok (record { outputs = o; state = j }) → row i (e ∷ es) ≡ one_more o (row j es)
     unfolding row_of
     row_taken a o j h = rw (a, h) refl
 
-    row_refused : (asked_of e).sample ≡ true → (answer : Answer) → sampled ≡ Refused answer → row i (e ∷ es) ≡ no_samples answer i
+    row_refused : (asked_of e).sample ≡ true → (answer : Answer) → sampled ≡ Err answer → row i (e ∷ es) ≡ no_samples answer i
     unfolding row_of
     row_refused a answer h = rw (a, h) refl
 
-    row_other : (asked_of e).sample ≡ false → row i (e ∷ es) ≡ no_samples Done i
+    row_other : (asked_of e).sample ≡ false → row i (e ∷ es) ≡ no_samples done i
     unfolding row_of
     row_other a = rw a refl
 
-  row_none : (i : IntegratorState) (es : List Event) → sample_first es ≡ false → row i es ≡ no_samples Done i
+  row_none : (i : IntegratorState) (es : List Event) → sample_first es ≡ false → row i es ≡ no_samples done i
   unfolding row_of
   row_none i [] h = refl
   row_none i (e ∷ es) h = rw h refl
@@ -91,10 +90,10 @@ module _ (bundle curves : List ℕ) (t : MixingTopology) (c : ControlCache) (mod
   outputs_few i [] = omega arith
   outputs_few i (e ∷ es) = go (asked_of e).sample refl (sampled i e es) (λ (j : IntegratorState). outputs_few j es)
     where
-      go : (a : Bool) → (asked_of e).sample ≡ a → (x : Sampled) → ((j : IntegratorState) → length (row_of bundle curves t c mode j es).outputs ≤ samples_of es)
-          → length (cond a (row_on (λ j. row_of bundle curves t c mode j es) i x) (no_samples Done i)).outputs ≤ sample_count_of e + samples_of es
-      go true h (Taken o j) later = omega (arith, later j, asked_one e h)
-      go true h (Refused answer) later = omega arith
+      go : (a : Bool) → (asked_of e).sample ≡ a → (x : Result Sampled Refusal) → ((j : IntegratorState) → length (row_of bundle curves t c mode j es).outputs ≤ samples_of es)
+          → length (cond a (row_on (λ j. row_of bundle curves t c mode j es) i x) (no_samples done i)).outputs ≤ sample_count_of e + samples_of es
+      go true h (Ok (record { outputs = o; state = j })) later = omega (arith, later j, asked_one e h)
+      go true h (Err answer) later = omega arith
       go false h x later = omega arith
 
   module _ (script : List ℕ) (count start before : ℕ) (out₀ : List ℕ) (from : IntegratorState) where
@@ -126,27 +125,27 @@ module _ (bundle curves : List ℕ) (t : MixingTopology) (c : ControlCache) (mod
       )
 
       pub at_end : count ≤ i
-          → (◌≡◌ {A = Row} (record { answer = Done; events = i; samples = samples; integrator = j }) (row_end start before (row from (left start))))
+          → (◌≡◌ {A = Row} (record { answer = done; events = i; samples = samples; integrator = j }) (row_end start before (row from (left start))))
           × (out ≡ put_at out₀ (16 * before) (sample_bytes (row from (left start)).outputs))
       unfolding row_of
-      at_end h = stops Done (ap (row j) (events_end script count i h))
+      at_end h = stops done (ap (row j) (events_end script count i h))
 
       -- no sample is next
       pub none_next : sample_first (left i) ≡ false
-          → (◌≡◌ {A = Row} (record { answer = Done; events = i; samples = samples; integrator = j }) (row_end start before (row from (left start))))
+          → (◌≡◌ {A = Row} (record { answer = done; events = i; samples = samples; integrator = j }) (row_end start before (row from (left start))))
           × (out ≡ put_at out₀ (16 * before) (sample_bytes (row from (left start)).outputs))
-      none_next h = stops Done (row_none j (left i) h)
+      none_next h = stops done (row_none j (left i) h)
 
       module _ (more : i < count) where
-        pub unreadable : event_at script (8 + 12 * i) ≡ Unreadable → ⊥
+        pub unreadable : event_at script (8 + 12 * i) ≡ None → ⊥
         unreadable h = true≢false (sym far.readable ∙ all_stop script count i more h)
 
-        module _ (e : Event) (is : event_at script (8 + 12 * i) ≡ Readable e) {ask : Asked} (asks : ask ≡ asked_of e) where
+        module _ (e : Event) (is : event_at script (8 + 12 * i) ≡ Some e) {ask : Asked} (asks : ask ≡ asked_of e) where
           -- as the code has it, by what was asked
-          abbrev taken : Sampled
+          abbrev taken : Result Sampled Refusal
           taken = filter_sample_of bundle curves (summer_slot_of t) t c mode j ask.input_sum ask.source_energy
 
-          sample_is : (x : Sampled) → taken ≡ x → sampled j e [] ≡ x
+          sample_is : (x : Result Sampled Refusal) → taken ≡ x → sampled j e [] ≡ x
           sample_is x h = ap (λ (a : Asked). filter_sample_of bundle curves (summer_slot_of t) t c mode j a.input_sum a.source_energy) (sym asks) ∙ h
 
           asked_is : (b : Bool) → ask.sample ≡ b → (asked_of e).sample ≡ b
@@ -156,20 +155,20 @@ module _ (bundle curves : List ℕ) (t : MixingTopology) (c : ControlCache) (mod
           next = events_next script count i more e is
 
           pub other : ask.sample ≡ false
-              → (◌≡◌ {A = Row} (record { answer = Done; events = i; samples = samples; integrator = j }) (row_end start before (row from (left start))))
+              → (◌≡◌ {A = Row} (record { answer = done; events = i; samples = samples; integrator = j }) (row_end start before (row from (left start))))
               × (out ≡ put_at out₀ (16 * before) (sample_bytes (row from (left start)).outputs))
-          other a = stops Done (ap (row j) next ∙ row_other j e (left (i + 1)) (asked_is false a))
+          other a = stops done (ap (row j) next ∙ row_other j e (left (i + 1)) (asked_is false a))
 
-          pub refused : ask.sample ≡ true → (answer : Answer) {x : Sampled} → x ≡ taken → x ≡ Refused answer
+          pub refused : ask.sample ≡ true → (answer : Answer) {x : Result Sampled Refusal} → x ≡ taken → x ≡ Err answer
               → (◌≡◌ {A = Row} (record { answer = answer; events = i; samples = samples; integrator = j }) (row_end start before (row from (left start))))
               × (out ≡ put_at out₀ (16 * before) (sample_bytes (row from (left start)).outputs))
-          refused a answer p h = stops answer (ap (row j) next ∙ row_refused j e (left (i + 1)) (asked_is true a) answer (sample_is (Refused answer) (sym p ∙ h)))
+          refused a answer p h = stops answer (ap (row j) next ∙ row_refused j e (left (i + 1)) (asked_is true a) answer (sample_is (Err answer) (sym p ∙ h)))
 
-          pub turned : ask.sample ≡ true → (o : Outputs) (k : IntegratorState) {x : Sampled} → x ≡ taken → x ≡ Taken o k → Sofar (put_at out (16 * samples) (output_bytes o)) k (samples + 1) (i + 1)
+          pub turned : ask.sample ≡ true → (o : Outputs) (k : IntegratorState) {x : Result Sampled Refusal} → x ≡ taken → x ≡ Ok (record { outputs = o; state = k }) → Sofar (put_at out (16 * samples) (output_bytes o)) k (samples + 1) (i + 1)
           unfolding samples_of sample_bytes
           turned wanted o k p₀ h₀ =
               let a = asked_is true wanted in
-              let h = sample_is (Taken o k) (sym p₀ ∙ h₀) in
+              let h = sample_is (Ok (record { outputs = o; state = k })) (sym p₀ ∙ h₀) in
               let later = row k (left (i + 1)) in
               let whole : row j (left i) ≡ one_more o later = ap (row j) next ∙ row_taken j e (left (i + 1)) a o k h in
               let one = asked_one e a in

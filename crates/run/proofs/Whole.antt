@@ -9,23 +9,19 @@ use lib.Dec.{leb}
 use lib.ListN.{length, drop}
 use lib.Ieee.{Float}
 use borrow.Author.Tests.{leb-true, leb-false, le-leb, lt-leb, eq-eqb}
-use Rattle.answers.specs.declared.Answer.{Answer}
-use Rattle.answers.specs.declared.Answer.TheVariants.{Done, Argument, Script, OutputLength}
-use Rattle.answers.specs.Answers.{first_of, unless_of, is_done_of}
+use Rattle.answers.specs.declared.Refusal.TheVariants.{Argument, Script, OutputLength}
+use Rattle.answers.specs.Answers.{first_of, unless_of, Answer, done}
 use Rattle.answers.proofs.Laws.{done_is, first_done, unless_done}
 use Rattle.wire.specs.Wire.{Bytes, u32_at, put_at}
 use Rattle.wire.proofs.Laws.{put_at_in, put_at_nil}
 use Rattle.transients.specs.Block.{judge_decays_of}
 use Rattle.control.specs.declared.State.{State}
-use Rattle.control.specs.declared.DecodedState.{DecodedState}
-use Rattle.control.specs.declared.DecodedState.TheVariants.{Valid, Invalid}
 use Rattle.control.specs.Block.{valid_of, block_of, fields_of, decode_of, encode_of}
 use Rattle.control.proofs.RoundTrip.{decoded, encode_decoded}
 use Rattle.controls.specs.Judging.{judge_controls_of}
 use Rattle.refresh.specs.Refresh.{state_gain_of}
 use Rattle.script.specs.declared.Event.{Event}
 use Rattle.script.specs.declared.Checked.{Checked}
-use Rattle.script.specs.declared.Checked.TheVariants.{WellFormed, Refused}
 use Rattle.script.specs.Script.{well_formed, event_count_of, slices_of, events_of, samples_of, check_script_of}
 use Rattle.script.proofs.Laws.{slices_from, sample_le}
 use Rattle.script.proofs.Cut.{header, events_count}
@@ -38,6 +34,8 @@ use Rattle.run.specs.Run.{Ran, stopped, went, play_of, played_of, sample_bytes, 
 use Rattle.run.specs.Rows.{play_end, ended_of}
 use Rattle.run.proofs.Bytes.{length_outputs}
 use Rattle.run.proofs.Loop.{played_few}
+use Rattle.std.specs.Prelude.{Err, is_ok, Option, Some, None, Result, Ok}
+use Rattle.answers.specs.declared.Refusal.{Refusal}
 
 -- ---- the script
 
@@ -49,28 +47,28 @@ module _ (script : List ℕ) (room : ℕ) where
       go true h = let le = leb-true n (room / 16) h in sym (le-leb (16 * n) room (omega arith))
       go false h = let lt = leb-false n (room / 16) h in sym (lt-leb (16 * n) room (omega arith))
 
-  pub script_formed : (events samples : ℕ) {x : Checked} → x ≡ check_script_of script → x ≡ WellFormed events samples → unless_of (leb samples (room / 16)) OutputLength ≡ judge_script_of script room
+  pub script_formed : (events samples : ℕ) {x : Result Checked Refusal} → x ≡ check_script_of script → x ≡ Ok (record { events = events; samples = samples }) → unless_of (leb samples (room / 16)) OutputLength ≡ judge_script_of script room
   unfolding check_script_of judge_script_of
   script_formed events samples e h = go (well_formed script) refl (sym e ∙ h)
     where
-      go : (t : Bool) → well_formed script ≡ t → cond t (WellFormed (event_count_of script) (samples_of (events_of script))) (Refused Script) ≡ WellFormed events samples
+      go : (t : Bool) → well_formed script ≡ t → cond t (Ok (record { events = (event_count_of script); samples = (samples_of (events_of script)) })) (Err Script) ≡ Ok (record { events = events; samples = samples })
           → unless_of (leb samples (room / 16)) OutputLength ≡ first_of (unless_of t Script) (unless_of (leb (16 * samples_of (events_of script)) room) OutputLength)
       go true w p = let n : samples ≡ samples_of (events_of script) = cc in rw (n, fits_is (samples_of (events_of script))) refl
       go false w p = cc
 
-  pub script_refused : (answer : Answer) {x : Checked} → x ≡ check_script_of script → x ≡ Refused answer → answer ≡ judge_script_of script room
+  pub script_refused : (answer : Answer) {x : Result Checked Refusal} → x ≡ check_script_of script → x ≡ Err answer → answer ≡ judge_script_of script room
   unfolding check_script_of judge_script_of
   script_refused answer e h = go (well_formed script) refl (sym e ∙ h)
     where
-      go : (t : Bool) → well_formed script ≡ t → cond t (WellFormed (event_count_of script) (samples_of (events_of script))) (Refused Script) ≡ Refused answer
+      go : (t : Bool) → well_formed script ≡ t → cond t (Ok (record { events = (event_count_of script); samples = (samples_of (events_of script)) })) (Err Script) ≡ Err answer
           → answer ≡ first_of (unless_of t Script) (unless_of (leb (16 * samples_of (events_of script)) room) OutputLength)
       go true w p = cc
       go false w p = cc
 
 -- ---- a script that is not refused
 
-module _ (script : List ℕ) (room : ℕ) (fine : judge_script_of script room ≡ Done) where
-  both_done : (unless_of (well_formed script) Script ≡ Done) × (unless_of (leb (16 * samples_of (events_of script)) room) OutputLength ≡ Done)
+module _ (script : List ℕ) (room : ℕ) (fine : judge_script_of script room ≡ done) where
+  both_done : (unless_of (well_formed script) Script ≡ done) × (unless_of (leb (16 * samples_of (events_of script)) room) OutputLength ≡ done)
   unfolding judge_script_of
   both_done = first_done (unless_of (well_formed script) Script) (unless_of (leb (16 * samples_of (events_of script)) room) OutputLength) fine
 
@@ -82,9 +80,9 @@ module _ (script : List ℕ) (room : ℕ) (fine : judge_script_of script room �
 
 -- ---- the start, from a valid state
 
-module _ (lent : Lent) (script : List ℕ) (s : State) (valid : valid_of s ≡ true) {a : Answer} (is : a ≡ judge_controls_of lent.bundle s) {d : Bool} (is_d : d ≡ is_done_of a) where
-  done_here : (v : Bool) → d ≡ v → is_done_of (judge_controls_of lent.bundle s) ≡ v
-  done_here v h = ap is_done_of (sym is) ∙ sym is_d ∙ h
+module _ (lent : Lent) (script : List ℕ) (s : State) (valid : valid_of s ≡ true) {a : Answer} (is : a ≡ judge_controls_of lent.bundle s) {d : Bool} (is_d : d ≡ is_ok a) where
+  done_here : (v : Bool) → d ≡ v → is_ok (judge_controls_of lent.bundle s) ≡ v
+  done_here v h = ap is_ok (sym is) ∙ sym is_d ∙ h
 
   -- refused by its controls
   pub start_stops : d ≡ false → (output : List ℕ)
@@ -101,7 +99,7 @@ module _ (lent : Lent) (script : List ℕ) (s : State) (valid : valid_of s ≡ t
     unfolding played_of
     start_plays = rw (done_here true t, first_is) refl
 
-    module _ (output : List ℕ) (fine : judge_script_of script (length output) ≡ Done) where
+    module _ (output : List ℕ) (fine : judge_script_of script (length output) ≡ done) where
       pub start_ahead : Ahead script count 0
       start_ahead =
           let k = header script (formed script (length output) fine) in
@@ -116,17 +114,17 @@ module _ (lent : Lent) (script : List ℕ) (s : State) (valid : valid_of s ≡ t
 -- ---- what is judged before the controls
 
 module _ (lent : Lent) (block script : List ℕ) (room : ℕ) where
-  pub judged_invalid : {x : DecodedState} → x ≡ decode_of block → x ≡ Invalid → first_of (judge_lent_of lent) Argument ≡ judge_run_of lent block script room
+  pub judged_invalid : {x : Option State} → x ≡ decode_of block → x ≡ None → first_of (judge_lent_of lent) Argument ≡ judge_run_of lent block script room
   unfolding judge_run_of
   judged_invalid e h = rw (sym e ∙ h) refl
 
-  pub judged_valid : (s : State) {x : DecodedState} → x ≡ decode_of block → x ≡ Valid s
+  pub judged_valid : (s : State) {x : Option State} → x ≡ decode_of block → x ≡ Some s
       → first_of (judge_lent_of lent) (first_of (judge_decays_of lent.decays) (judge_script_of script room)) ≡ judge_run_of lent block script room
   unfolding judge_run_of
   judged_valid s e h = rw (sym e ∙ h) refl
 
-  module _ (judged : judge_run_of lent block script room ≡ Done) where
-    pub parts : (judge_lent_of lent ≡ Done) × (judge_block_of block ≡ Done) × (judge_decays_of lent.decays ≡ Done) × (judge_script_of script room ≡ Done)
+  module _ (judged : judge_run_of lent block script room ≡ done) where
+    pub parts : (judge_lent_of lent ≡ done) × (judge_block_of block ≡ done) × (judge_decays_of lent.decays ≡ done) × (judge_script_of script room ≡ done)
     unfolding judge_run_of
     parts =
         let p = first_done (judge_lent_of lent) _ judged in
@@ -137,12 +135,12 @@ module _ (lent : Lent) (block script : List ℕ) (room : ℕ) where
     pub roomy : 16 * samples_of (events_of script) ≤ room
     roomy = fitting script room parts.3
 
-    pub block_valid : decode_of block ≡ Valid (fields_of block)
+    pub block_valid : decode_of block ≡ Some (fields_of block)
     block_valid = go (decode_of block) refl (unless_done (is_valid (decode_of block)) Argument refl parts.1)
       where
-        go : (x : DecodedState) → decode_of block ≡ x → is_valid x ≡ true → decode_of block ≡ Valid (fields_of block)
-        go (Valid s) e h = e ∙ ap Valid (sym (decoded block s e).fields)
-        go Invalid e h = absurd (true≢false (sym h))
+        go : (x : Option State) → decode_of block ≡ x → is_valid x ≡ true → decode_of block ≡ Some (fields_of block)
+        go (Some s) e h = e ∙ ap Some (sym (decoded block s e).fields)
+        go None e h = absurd (true≢false (sym h))
 
     block_long : length block ≡ 68
     block_long = (decoded block (fields_of block) block_valid).long
@@ -153,13 +151,13 @@ module _ (lent : Lent) (block script : List ℕ) (room : ℕ) where
 
 -- ---- the bytes that are left
 
-module _ (lent : Lent) (block script output : List ℕ) (judged : judge_run_of lent block script (length output) ≡ Done) where
+module _ (lent : Lent) (block script output : List ℕ) (judged : judge_run_of lent block script (length output) ≡ done) where
   abbrev ran : Ran
   ran = played_of lent (fields_of block) (events_of script)
 
   ran_few : length ran.samples ≤ samples_of (events_of script)
   unfolding played_of
-  ran_few = go (is_done_of (judge_controls_of lent.bundle (fields_of block)))
+  ran_few = go (is_ok (judge_controls_of lent.bundle (fields_of block)))
     where
       go : (d : Bool)
           → length (cond d (play_of lent (fields_of block) (events_of script)) (stopped (judge_controls_of lent.bundle (fields_of block)) (fields_of block))).samples ≤ samples_of (events_of script)
@@ -184,17 +182,17 @@ module _ (lent : Lent) (block script output : List ℕ) (judged : judge_run_of l
       (refl, (refl, front))
 
 -- from the state that the block stands for
-module _ (lent : Lent) (block script : List ℕ) (s : State) {x : DecodedState} (e : x ≡ decode_of block) (h : x ≡ Valid s) where
+module _ (lent : Lent) (block script : List ℕ) (s : State) {x : Option State} (e : x ≡ decode_of block) (h : x ≡ Some s) where
   module _ (room : ℕ) {a : Answer} (is_a : a ≡ first_of (judge_lent_of lent) (first_of (judge_decays_of lent.decays) (judge_script_of script room))) where
     pub valid_judged : a ≡ judge_run_of lent block script room
     valid_judged = is_a ∙ judged_valid lent block script room s e h
 
-    pub valid_fine : a ≡ Done → (valid_of s ≡ true) × (judge_script_of script room ≡ Done)
+    pub valid_fine : a ≡ done → (valid_of s ≡ true) × (judge_script_of script room ≡ done)
     valid_fine done =
         let later = (first_done (judge_lent_of lent) _ (sym is_a ∙ done)).1 in
         ((decoded block s (sym e ∙ h)).valid, (first_done (judge_decays_of lent.decays) (judge_script_of script room) later).1)
 
-  pub valid_done : (output : List ℕ) {a : Answer} → a ≡ first_of (judge_lent_of lent) (first_of (judge_decays_of lent.decays) (judge_script_of script (length output))) → a ≡ Done
+  pub valid_done : (output : List ℕ) {a : Answer} → a ≡ first_of (judge_lent_of lent) (first_of (judge_decays_of lent.decays) (judge_script_of script (length output))) → a ≡ done
       → {p : Played} → p ≡ play_end 0 0 (played_of lent s (events_of script)) → {after state : List ℕ}
       → after ≡ play_put output (played_of lent s (events_of script)) → state ≡ encode_of p.state block
       → (◌≡◌ {A = Ended} (record { answer = p.answer; events = p.events; samples = p.samples }) (ended_of (run_of lent block script output)))
@@ -203,29 +201,29 @@ module _ (lent : Lent) (block script : List ℕ) (s : State) {x : DecodedState} 
       let f = (decoded block s (sym e ∙ h)).fields in
       run_done lent block script output (sym (valid_judged (length output) is_a) ∙ done) (rw f is) (rw f put) left
 
-never_done : (l : Answer) → is_done_of (first_of l Argument) ≡ false
-never_done l = go (is_done_of l) refl
+never_done : (l : Answer) → is_ok (first_of l Argument) ≡ false
+never_done l = go (is_ok l) refl
   where
-    go : (d : Bool) → is_done_of l ≡ d → is_done_of (cond d Argument l) ≡ false
+    go : (d : Bool) → is_ok l ≡ d → is_ok (cond d Argument l) ≡ false
     go true h = refl
     go false h = h
 
 pub run_refused :
-    (lent : Lent) (block script output : List ℕ) {a : Answer} → a ≡ judge_run_of lent block script (length output) → is_done_of a ≡ false
+    (lent : Lent) (block script output : List ℕ) {a : Answer} → a ≡ judge_run_of lent block script (length output) → is_ok a ≡ false
     → (◌≡◌ {A = Ended} (record { answer = a; events = 0; samples = 0 }) (ended_of (run_of lent block script output)))
     × ((block ≡ (run_of lent block script output).state) × (output ≡ (run_of lent block script output).output))
 unfolding run_of
 run_refused lent block script output is off =
-    let d : is_done_of (judge_run_of lent block script (length output)) ≡ false = ap is_done_of (sym is) ∙ off in
+    let d : is_ok (judge_run_of lent block script (length output)) ≡ false = ap is_ok (sym is) ∙ off in
     rw (is, d) (refl, (refl, refl))
 
 -- an invalid block
 pub invalid_refused :
-    (lent : Lent) (block script output : List ℕ) {x : DecodedState} → x ≡ decode_of block → x ≡ Invalid → {a : Answer} → a ≡ first_of (judge_lent_of lent) Argument
+    (lent : Lent) (block script output : List ℕ) {x : Option State} → x ≡ decode_of block → x ≡ None → {a : Answer} → a ≡ first_of (judge_lent_of lent) Argument
     → (◌≡◌ {A = Ended} (record { answer = a; events = 0; samples = 0 }) (ended_of (run_of lent block script output)))
     × ((block ≡ (run_of lent block script output).state) × (output ≡ (run_of lent block script output).output))
 invalid_refused lent block script output e h is =
-    run_refused lent block script output (is ∙ judged_invalid lent block script (length output) e h) (ap is_done_of is ∙ never_done (judge_lent_of lent))
+    run_refused lent block script output (is ∙ judged_invalid lent block script (length output) e h) (ap is_ok is ∙ never_done (judge_lent_of lent))
 
 -- ---- how many events and samples there can be
 
@@ -237,7 +235,7 @@ samples_most (e ∷ es) = omega (arith, sample_le e, samples_most es)
 play_most : (lent : Lent) (s : State) (es : List Event) → (play_of lent s es).events ≤ length es
 unfolding play_of
 play_most lent s [] = omega arith
-play_most lent s (e ∷ es) = go (is_done_of (plain_step lent s e).answer) (play_most lent (plain_step lent s e).state es)
+play_most lent s (e ∷ es) = go (is_ok (plain_step lent s e).answer) (play_most lent (plain_step lent s e).state es)
   where
     go : (d : Bool) → (play_of lent (plain_step lent s e).state es).events ≤ length es
         → (cond d (went (plain_step lent s e) (play_of lent (plain_step lent s e).state es)) (stopped (plain_step lent s e).answer s)).events ≤ suc (length es)
@@ -247,9 +245,9 @@ play_most lent s (e ∷ es) = go (is_done_of (plain_step lent s e).answer) (play
 -- At most 65,536 of each, so that both fit the C interface's u32.
 pub run_most : (lent : Lent) (block script output : List ℕ) → ((run_of lent block script output).events ≤ 65536) × ((run_of lent block script output).samples ≤ 65536)
 unfolding run_of played_of
-run_most lent block script output = go (is_done_of (judge_run_of lent block script (length output))) refl
+run_most lent block script output = go (is_ok (judge_run_of lent block script (length output))) refl
   where
-    go : (d : Bool) → is_done_of (judge_run_of lent block script (length output)) ≡ d
+    go : (d : Bool) → is_ok (judge_run_of lent block script (length output)) ≡ d
         →
         ((cond d (left_of (played_of lent (fields_of block) (events_of script)) output)
         (record { answer = judge_run_of lent block script (length output); events = 0; samples = 0; state = block; output = output })).events ≤ 65536)
@@ -263,7 +261,7 @@ run_most lent block script output = go (is_done_of (judge_run_of lent block scri
         let few = (header script f).few in
         let most = samples_most (events_of script) in
         let written = ran_few lent block script output judged in
-        (either (is_done_of (judge_controls_of lent.bundle (fields_of block))), omega arith)
+        (either (is_ok (judge_controls_of lent.bundle (fields_of block))), omega arith)
       where
         either : (d : Bool) → (cond d (play_of lent (fields_of block) (events_of script)) (stopped (judge_controls_of lent.bundle (fields_of block)) (fields_of block))).events ≤ 65536
         either true =

@@ -1,11 +1,9 @@
 -- What samples in a row share, and what the loop asks and gives: of the controls the part that a sample reads, and the summer's rest. It serves the proof of the loop;
 -- no promise is stated with it.
-use Rattle.std.specs.Prelude.{ℕ, ◌+◌, ◌*◌, ◌≤◌, ◌≡◌, true, List, length, Float}
+use Rattle.std.specs.Prelude.{ℕ, ◌+◌, ◌*◌, ◌≤◌, ◌≡◌, true, List, length, Float, Result}
 use Rattle.constants.specs.Drives.{input_drives_of, feedback_drives_of}
-use Rattle.answers.specs.declared.Answer.TheVariants.{Done}
 use Rattle.answers.specs.declared.Buffer.TheVariants.{Bundle}
 use Rattle.wire.specs.Wire.{put_at}
-use Rattle.bundle.specs.declared.Read.{Read}
 use Rattle.bundle.specs.Opening.{judge_places_of}
 use Rattle.bundle.specs.Reading.{read_of}
 use Rattle.curves.specs.Sampling.{summer_resting_output_of, summer_resting_places_of}
@@ -29,6 +27,8 @@ use Rattle.run.specs.declared.Resting.{Resting}
 use Rattle.run.specs.declared.Moved.{Moved}
 use Rattle.run.specs.Run.{Ran, play_of, sample_bytes}
 use Rattle.run.specs.Rows.{Samples, Moves, row_of, moves_of}
+use Rattle.answers.specs.Answers.{done}
+use Rattle.answers.specs.declared.Refusal.{Refusal}
 
 -- all of it, worked out afresh from a state
 unfoldable pub parts_of : List ℕ → State → Parts
@@ -70,7 +70,7 @@ pub record Room (script : List ℕ) (count i : ℕ) (output : List ℕ) (written
 
 -- ---- a row of samples: what is handed in beside its state, what it gives, and the output after it
 
-pub record Given (bundle : List ℕ) (s : State) (gain : Float) (rest : Read) : Type 0 where
+pub record Given (bundle : List ℕ) (s : State) (gain : Float) (rest : Result Float Refusal) : Type 0 where
   pub gained : gain ≡ state_gain_of bundle s
   pub rested : rest ≡ rest_of bundle (fresh_topology_of s)
 
@@ -87,12 +87,12 @@ samples_put output written r = put_at output (16 * written) (sample_bytes r.outp
 -- a valid state whose controls are not refused, with its mode's gain
 pub record From (bundle : List ℕ) (s : State) (gain : Float) : Type 0 where
   pub valid : valid_of s ≡ true
-  pub judged : judge_controls_of bundle s ≡ Done
+  pub judged : judge_controls_of bundle s ≡ done
   pub gained : gain ≡ state_gain_of bundle s
 
 -- how its registers were judged
 abbrev pub done_with : Float → Judged
-done_with gain = record { answer = Done; gain = gain }
+done_with gain = record { answer = done; gain = gain }
 
 abbrev pub moves_from : List ℕ → State → List ℕ → ℕ → ℕ → Moves
 moves_from bundle s script count i = moves_of bundle s (remaining_of script count i)

@@ -1,9 +1,6 @@
 -- How the run's loop takes its events: samples in a row, between which only the integrator moves, and other events in a row. What follows serves the proof of the
 -- loop; no promise is stated with it.
-use Rattle.std.specs.Prelude.{ℕ, suc, ◌+◌, Bool, true, false, cond, List, [], ◌∷◌, length}
-use Rattle.answers.specs.declared.Answer.{Answer}
-use Rattle.answers.specs.declared.Answer.TheVariants.{Done}
-use Rattle.answers.specs.Answers.{is_done_of}
+use Rattle.std.specs.Prelude.{ℕ, suc, ◌+◌, Bool, true, false, cond, List, [], ◌∷◌, length, is_ok, Result, Ok, Err}
 use Rattle.floats.specs.Arithmetic.{f32}
 use Rattle.integrator.specs.declared.IntegratorState.{IntegratorState}
 use Rattle.control.specs.declared.State.{State}
@@ -12,7 +9,6 @@ use Rattle.mixing.specs.declared.MixingTopology.{MixingTopology}
 use Rattle.controls.specs.declared.ControlCache.{ControlCache}
 use Rattle.sample.specs.declared.Outputs.{Outputs}
 use Rattle.sample.specs.declared.Sampled.{Sampled}
-use Rattle.sample.specs.declared.Sampled.TheVariants.{Taken, Refused}
 use Rattle.sample.specs.Sample.{summer_slot_of, filter_sample_of}
 use Rattle.script.specs.declared.Event.{Event}
 use Rattle.script.specs.declared.Event.TheVariants.{CutoffLow, CutoffHigh, Routing, Mode, Sample, Reset}
@@ -22,6 +18,8 @@ use Rattle.run.specs.declared.Row.{Row}
 use Rattle.run.specs.declared.Played.{Played}
 use Rattle.run.specs.declared.Ended.{Ended}
 use Rattle.run.specs.Run.{Ran, Run}
+use Rattle.answers.specs.Answers.{Answer, done}
+use Rattle.answers.specs.declared.Refusal.{Refusal}
 
 -- What an event asks of the filter: a sample with its two numbers, or no sample.
 abbrev pub not_asked : Asked
@@ -54,16 +52,16 @@ abbrev pub one_more : Outputs → Samples → Samples
 one_more o r = record { answer = r.answer; events = suc r.events; outputs = o ∷ r.outputs; integrator = r.integrator }
 
 -- a sample, and what comes after it
-abbrev pub row_on : (IntegratorState → Samples) → IntegratorState → Sampled → Samples
-row_on later i (Taken o j) = one_more o (later j)
-row_on later i (Refused answer) = no_samples answer i
+abbrev pub row_on : (IntegratorState → Samples) → IntegratorState → Result Sampled Refusal → Samples
+row_on later i (Ok (record { outputs = o; state = j })) = one_more o (later j)
+row_on later i (Err answer) = no_samples answer i
 
 unfoldable pub row_of : List ℕ → List ℕ → MixingTopology → ControlCache → ℕ → IntegratorState → List Event → Samples
-row_of bundle curves t c mode i [] = no_samples Done i
+row_of bundle curves t c mode i [] = no_samples done i
 row_of bundle curves t c mode i (e ∷ es) =
     cond (asked_of e).sample
     (row_on (λ j. row_of bundle curves t c mode j es) i (filter_sample_of bundle curves (summer_slot_of t) t c mode i (asked_of e).input_sum (asked_of e).source_energy))
-    (no_samples Done i)
+    (no_samples done i)
 
 -- The state that an event which is no sample leads to.
 abbrev pub next_of : State → Event → State
@@ -104,12 +102,12 @@ abbrev pub one_move : Moves → Moves
 one_move m = record { answer = m.answer; events = suc m.events; state = m.state }
 
 unfoldable pub moves_of : List ℕ → State → List Event → Moves
-moves_of bundle s [] = no_moves Done s
+moves_of bundle s [] = no_moves done s
 moves_of bundle s (e ∷ es) =
     let judged = judge_change_of bundle (next_of s e) in
     cond (asked_of e).sample
-    (no_moves Done s)
-    (cond (is_done_of judged) (one_move (moves_of bundle (next_of s e) es)) (no_moves judged s))
+    (no_moves done s)
+    (cond (is_ok judged) (one_move (moves_of bundle (next_of s e) es)) (no_moves judged s))
 
 -- as the code has them, after the events and samples before
 abbrev pub row_end : ℕ → ℕ → Samples → Row

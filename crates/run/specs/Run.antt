@@ -1,15 +1,12 @@
 -- The run: the plain machine on the bytes that are lent, up to its first refusal.
-use Rattle.std.specs.Prelude.{ℕ, suc, ◌*◌, Bool, true, false, cond, List, [], ◌∷◌, ◌++◌, leb, length, drop}
+use Rattle.std.specs.Prelude.{ℕ, suc, ◌*◌, Bool, true, false, cond, List, [], ◌∷◌, ◌++◌, leb, length, drop, Err, is_ok, Option, Some, None}
 use Rattle.std.specs.Float.{binary32}
 use Rattle.std.specs.Float.Ieee.{to_bits}
-use Rattle.answers.specs.declared.Answer.{Answer}
-use Rattle.answers.specs.declared.Answer.TheVariants.{Done, Argument, Script, OutputLength}
-use Rattle.answers.specs.Answers.{first_of, unless_of, is_done_of}
+use Rattle.answers.specs.declared.Refusal.TheVariants.{Argument, Script, OutputLength}
+use Rattle.answers.specs.Answers.{first_of, unless_of, Answer, done}
 use Rattle.wire.specs.Wire.{row_bytes}
 use Rattle.transients.specs.Block.{judge_decays_of}
 use Rattle.control.specs.declared.State.{State}
-use Rattle.control.specs.declared.DecodedState.{DecodedState}
-use Rattle.control.specs.declared.DecodedState.TheVariants.{Valid, Invalid}
 use Rattle.control.specs.Block.{block_of, fields_of, decode_of}
 use Rattle.controls.specs.Judging.{judge_controls_of}
 use Rattle.sample.specs.declared.Outputs.{Outputs}
@@ -36,16 +33,16 @@ went p r = record { answer = r.answer; events = suc r.events; samples = p.sample
 
 -- The plain machine fed with events, up to the first that is refused.
 unfoldable pub play_of : Lent → State → List Event → Ran
-play_of lent s [] = stopped Done s
+play_of lent s [] = stopped done s
 play_of lent s (e ∷ es) =
     let p = plain_step lent s e in
-    cond (is_done_of p.answer) (went p (play_of lent p.state es)) (stopped p.answer s)
+    cond (is_ok p.answer) (went p (play_of lent p.state es)) (stopped p.answer s)
 
 -- Controls are worked out before the first event, and with 0 events too: a 3 or 6 there counts as no event done.
 unfoldable pub played_of : Lent → State → List Event → Ran
 played_of lent s es =
     let started = judge_controls_of lent.bundle s in
-    cond (is_done_of started) (play_of lent s es) (stopped started s)
+    cond (is_ok started) (play_of lent s es) (stopped started s)
 
 -- ---- the bytes
 
@@ -57,9 +54,9 @@ unfoldable pub sample_bytes : List Outputs → List ℕ
 sample_bytes [] = []
 sample_bytes (o ∷ os) = output_bytes o ++ sample_bytes os
 
-abbrev pub is_valid : DecodedState → Bool
-is_valid (Valid s) = true
-is_valid Invalid = false
+abbrev pub is_valid : Option State → Bool
+is_valid (Some s) = true
+is_valid None = false
 
 -- 10
 abbrev pub judge_block_of : List ℕ → Answer
@@ -95,6 +92,6 @@ left_of r output =
 unfoldable pub run_of : Lent → List ℕ → List ℕ → List ℕ → Run
 run_of lent block script output =
     let judged = judge_run_of lent block script (length output) in
-    cond (is_done_of judged)
+    cond (is_ok judged)
     (left_of (played_of lent (fields_of block) (events_of script)) output)
     (record { answer = judged; events = 0; samples = 0; state = block; output = output })

@@ -22,7 +22,7 @@ use integrator::IntegratorState;
 use mixing::MixingTopology;
 use refresh::{CoreControls, CoreRefreshed, Judged};
 use sample::{Outputs, Sampled};
-use script::{Checked, DecodedEvent, Event};
+use script::{Checked, Option<Event>, Event};
 
 // What a run answers: done or its refusal, the events done and the samples written.
 #[derive(Clone, Copy)]
@@ -56,14 +56,14 @@ pub struct Parts {
     pub gains: [f32; 16],
     pub core: CoreControls,
     pub mode_output_gain: f32,
-    pub rest: Read,
+    pub rest: Result<f32, Refusal>,
 }
 
 // The summer's rest at a count of the filter's inputs.
 #[derive(Clone, Copy)]
 pub struct Resting {
     pub inputs: usize,
-    pub rest: Read,
+    pub rest: Result<f32, Refusal>,
 }
 
 // Where events in a row that are no samples end, by the events done up to there.
@@ -124,7 +124,7 @@ fn core_of(bundle: &[u8], state: State) -> CoreRefreshed
 }
 
 // What samples in a row read, from a state with its mode's gain and its summer's rest.
-fn parts_of(bundle: &[u8], state: State, gain: f32, rest: Read) -> Parts
+fn parts_of(bundle: &[u8], state: State, gain: f32, rest: Result<f32, Refusal>) -> Parts
     requires { P.Given bundle.now state gain rest }
     ensures { result ≡ P.parts_of bundle.now state }
 {
@@ -192,7 +192,7 @@ fn judge_next(bundle: &[u8], before: FilterRegisters, gain: f32, next: FilterReg
         & (before.mode == next.mode)
     {
         return Judged {
-            answer: Answer::Done,
+            answer: Ok(()),
             gain,
         };
     }
@@ -256,7 +256,7 @@ fn play_samples(
     curves: &[u8],
     state: State,
     gain: f32,
-    summer_rest: Read,
+    summer_rest: Result<f32, Refusal>,
     script: &[u8],
     start: usize,
     count: usize,
@@ -284,9 +284,9 @@ fn play_samples(
     let mut samples = before;
     let mut i = start;
     while i < count {
-        let DecodedEvent::Readable(event) = script::event_at(script, 8 + 12 * i) else {
+        let Some(event) = script::event_at(script, 8 + 12 * i) else {
             return Row {
-                answer: Answer::Script,
+                answer: Err(Refusal::Script),
                 events: i,
                 samples,
                 integrator,
@@ -328,7 +328,7 @@ fn play_samples(
             }
         } else {
             return Row {
-                answer: Answer::Done,
+                answer: Ok(()),
                 events: i,
                 samples,
                 integrator,
@@ -336,7 +336,7 @@ fn play_samples(
         }
     }
     Row {
-        answer: Answer::Done,
+        answer: Ok(()),
         events: i,
         samples,
         integrator,
@@ -349,7 +349,7 @@ fn sample_next(script: &[u8], i: usize, count: usize) -> bool
     ensures { result ≡ W.sample_first (P.remaining_of script.now count i) }
 {
     if i < count {
-        let DecodedEvent::Readable(event) = script::event_at(script, 8 + 12 * i) else {
+        let Some(event) = script::event_at(script, 8 + 12 * i) else {
             return false;
         };
         let ask = asks(event);
@@ -364,7 +364,7 @@ fn play_row(
     curves: &[u8],
     state: State,
     gain: f32,
-    rest: Read,
+    rest: Result<f32, Refusal>,
     script: &[u8],
     start: usize,
     count: usize,
@@ -384,7 +384,7 @@ fn play_row(
         );
     }
     Row {
-        answer: Answer::Done,
+        answer: Ok(()),
         events: start,
         samples: before,
         integrator,
@@ -410,9 +410,9 @@ fn play_changes(
     let mut gain = given;
     let mut i = start;
     while i < count {
-        let DecodedEvent::Readable(event) = script::event_at(script, 8 + 12 * i) else {
+        let Some(event) = script::event_at(script, 8 + 12 * i) else {
             return Moved {
-                answer: Answer::Script,
+                answer: Err(Refusal::Script),
                 events: i,
                 state,
                 gain,
@@ -421,7 +421,7 @@ fn play_changes(
         let ask = asks(event);
         if ask.sample {
             return Moved {
-                answer: Answer::Done,
+                answer: Ok(()),
                 events: i,
                 state,
                 gain,
@@ -431,7 +431,7 @@ fn play_changes(
         let registers = next_registers(before, event);
         let judged = judge_next(bundle, before, gain, registers);
         let answer = judged.answer;
-        if !answers::is_done(answer) {
+        if !answer.is_ok() {
             return Moved {
                 answer,
                 events: i,
@@ -444,7 +444,7 @@ fn play_changes(
             let transients = held.charge(registers.volume);
             if !transients.finite_charges() {
                 return Moved {
-                    answer: Answer::Domain,
+                    answer: Err(Refusal::Domain),
                     events: i,
                     state,
                     gain,
@@ -464,7 +464,7 @@ fn play_changes(
         i += 1;
     }
     Moved {
-        answer: Answer::Done,
+        answer: Ok(()),
         events: i,
         state,
         gain,
@@ -501,7 +501,7 @@ fn play(
         state = moved.state;
         gain = moved.gain;
         i = moved.events;
-        if !answers::is_done(stopped) {
+        if !stopped.is_ok() {
             return Played {
                 answer: stopped,
                 events: i,
@@ -519,7 +519,7 @@ fn play(
         state.integrator = after;
         samples = row.samples;
         i = row.events;
-        if !answers::is_done(answer) {
+        if !answer.is_ok() {
             return Played {
                 answer,
                 events: i,
@@ -529,7 +529,7 @@ fn play(
         }
     }
     Played {
-        answer: Answer::Done,
+        answer: Ok(()),
         events: i,
         samples,
         state,
@@ -544,7 +544,7 @@ fn judge_script(script: &[u8], room: usize) -> Answer
 {
     match script::check_script(script) {
         Checked::WellFormed { events: _, samples } => {
-            answers::unless(samples <= room / 16, Answer::OutputLength)
+            answers::unless(samples <= room / 16, Refusal::OutputLength)
         }
         Checked::Refused(answer) => answer,
     }
@@ -565,7 +565,7 @@ fn play_from(
 {
     let judged = refresh::judge_controls(bundle, from);
     let answer = judged.answer;
-    if answers::is_done(answer) {
+    if answer.is_ok() {
         let count = wire::u32_at(script, 0) as usize;
         return play(
             bundle,
@@ -613,15 +613,15 @@ pub fn run(
 {
     let decoded = State::decode(state);
     let lent = filter::judge_lent(bundle, curves);
-    let control::DecodedState::Valid(from) = decoded else {
-        return turned_back(answers::first(lent, Answer::Argument));
+    let Some(from) = decoded else {
+        return turned_back(answers::first(lent, Err(Refusal::Argument)));
     };
     let later = answers::first(
         transients::judge_decays(decays),
         judge_script(script, output.len()),
     );
     let judged = answers::first(lent, later);
-    if answers::is_done(judged) {
+    if judged.is_ok() {
         let p = play_from(bundle, curves, decays, from, script, output);
         let answer = p.answer;
         let after = p.state;

@@ -8,15 +8,11 @@ use lib.Ieee.{Float, binary32, fits}
 use lib.Ieee.Fits.{add-fits, sub-fits}
 use lib.Ieee.Scale.{finite}
 use Rattle.constants.specs.Values as K
-use Rattle.answers.specs.declared.Answer.{Answer}
-use Rattle.answers.specs.declared.Answer.TheVariants.{Domain}
-use Rattle.answers.specs.Answers.{is_done_of}
+use Rattle.answers.specs.declared.Refusal.TheVariants.{Domain}
 use Rattle.floats.specs.Arithmetic.{◌⊖◌, ◌⊗◌}
 use Rattle.integrator.specs.declared.IntegratorState.{IntegratorState}
 use Rattle.integrator.specs.declared.Coefficients.{Coefficients}
 use Rattle.integrator.specs.declared.Advanced.{Advanced}
-use Rattle.integrator.specs.declared.Substeps.{Substeps}
-use Rattle.integrator.specs.declared.Substeps.TheVariants.{Settled, NotFinite}
 use Rattle.integrator.specs.Integrator.{advance_of, in_domain, substep_of, then_of, four_substeps_of}
 use Rattle.mixing.specs.declared.MixingTopology.{MixingTopology}
 use Rattle.floats.specs.Floats.{finite_f32_of}
@@ -25,17 +21,19 @@ use Rattle.controls.specs.declared.FilterControls.{FilterControls}
 use Rattle.controls.specs.declared.ControlCache.{ControlCache}
 use Rattle.sample.specs.declared.Outputs.{Outputs}
 use Rattle.sample.specs.declared.Sampled.{Sampled}
-use Rattle.sample.specs.declared.Sampled.TheVariants.{Taken, Refused}
 use Rattle.sample.specs.Sample.{is_idle_of, tracked_energy_of, fed_energy_of, summer_transfer_of, moved_of, at_rest_of, advance_filter_core_of, select_filter_output_of, judge_sample_of, taken_of, filter_sample_of}
+use Rattle.answers.specs.Answers.{Answer}
+use Rattle.std.specs.Prelude.{Err, is_ok, Option, Some, None, Result, Ok}
+use Rattle.answers.specs.declared.Refusal.{Refusal}
 
 -- the numbers of the state after it, where there is one
-unfoldable finite_after : Substeps → Bool
-finite_after (Settled a) = finite_floats_of a.state
-finite_after NotFinite = true
+unfoldable finite_after : Option Advanced → Bool
+finite_after (Some a) = finite_floats_of a.state
+finite_after None = true
 
-unfoldable pub finite_taken : Sampled → Bool
-finite_taken (Taken outputs s) = finite_floats_of s
-finite_taken (Refused answer) = true
+unfoldable pub finite_taken : Result Sampled Refusal → Bool
+finite_taken (Ok (record { outputs = outputs; state = s })) = finite_floats_of s
+finite_taken (Err answer) = true
 
 -- ---- the floats
 
@@ -62,7 +60,7 @@ energy_fits i h = energy_of_three (finite_f32_of i.band_state) (finite_f32_of i.
 
 -- ---- the substeps
 
-settled_or_not : (a : Advanced) (t : Bool) → (t ≡ true → finite_floats_of a.state ≡ true) → finite_after (cond t (Settled a) NotFinite) ≡ true
+settled_or_not : (a : Advanced) (t : Bool) → (t ≡ true → finite_floats_of a.state ≡ true) → finite_after (cond t (Some a) None) ≡ true
 unfolding finite_after
 settled_or_not a true h = h refl
 settled_or_not a false h = refl
@@ -96,10 +94,10 @@ module _ (driven : Float) (k : Coefficients) where
   unfolding substep_of
   substep_valid s e = settled_or_not (advance_of s driven k) (in_domain (advance_of s driven k)) (settled_finite (advance_of s driven k) (band_fits s) (low_fits s) (energy_stays s e))
 
-  then_valid : (b : Substeps) → finite_after b ≡ true → finite_after (then_of b driven k) ≡ true
+  then_valid : (b : Option Advanced) → finite_after b ≡ true → finite_after (then_of b driven k) ≡ true
   unfolding finite_after then_of
-  then_valid (Settled a) h = substep_valid a.state (energy_fits a.state h)
-  then_valid NotFinite h = refl
+  then_valid (Some a) h = substep_valid a.state (energy_fits a.state h)
+  then_valid None h = refl
 
   four_valid : (s : IntegratorState) → fits binary32 s.filter_source_energy ≡ true → finite_after (four_substeps_of s driven k) ≡ true
   unfolding four_substeps_of
@@ -111,28 +109,28 @@ moved_valid f s input energy e = four_valid _ _ _ e
 
 -- ---- the sample
 
-either : (t : Bool) (x y : Sampled) → finite_taken x ≡ true → finite_taken y ≡ true → finite_taken (cond t x y) ≡ true
+either : (t : Bool) (x y : Result Sampled Refusal) → finite_taken x ≡ true → finite_taken y ≡ true → finite_taken (cond t x y) ≡ true
 either true x y p q = p
 either false x y p q = q
 
-state_valid : (o : Outputs) (s : IntegratorState) → finite_floats_of s ≡ true → finite_taken (Taken o s) ≡ true
+state_valid : (o : Outputs) (s : IntegratorState) → finite_floats_of s ≡ true → finite_taken (Ok (record { outputs = o; state = s })) ≡ true
 unfolding finite_taken
 state_valid o s h = h
 
-refused_valid : (a : Answer) → finite_taken (Refused a) ≡ true
+refused_valid : (a : Answer) → finite_taken (Err a) ≡ true
 unfolding finite_taken
 refused_valid a = refl
 
-taken_valid : (c : ControlCache) (count mode : ℕ) (b : Substeps) → finite_after b ≡ true → finite_taken (taken_of c count mode b) ≡ true
+taken_valid : (c : ControlCache) (count mode : ℕ) (b : Option Advanced) → finite_after b ≡ true → finite_taken (taken_of c count mode b) ≡ true
 unfolding finite_after taken_of
-taken_valid c count mode NotFinite h = refused_valid Domain
-taken_valid c count mode (Settled a) h =
+taken_valid c count mode None h = refused_valid Domain
+taken_valid c count mode (Some a) h =
     let o = a.outputs in
     let selected = select_filter_output_of c count mode o in
     let outputs : Outputs = record { high = o.high_pass; band = o.band_pass; low = o.low_pass; selected = selected } in
-    either (finite selected) (Taken outputs a.state) (Refused Domain) (state_valid outputs a.state h) (refused_valid Domain)
+    either (finite selected) (Ok (record { outputs = outputs; state = a.state })) (Err Domain) (state_valid outputs a.state h) (refused_valid Domain)
 
-rested : (t : Bool) (s : IntegratorState) (b : Substeps) → finite_floats_of s ≡ true → finite_after b ≡ true → finite_after (cond t (at_rest_of s) b) ≡ true
+rested : (t : Bool) (s : IntegratorState) (b : Option Advanced) → finite_floats_of s ≡ true → finite_after b ≡ true → finite_after (cond t (at_rest_of s) b) ≡ true
 unfolding finite_after
 rested true s b p q = p
 rested false s b p q = q
@@ -154,4 +152,4 @@ module _ (bundle curves : List ℕ) (slot : ℕ) (t : MixingTopology) (s : Integ
       let judged = judge_sample_of bundle curves slot t s sum energy in
       let count = t.filter_output_count in
       let moved = advance_filter_core_of bundle curves slot t c.filter s sum energy in
-      either (is_done_of judged) (taken_of c count mode moved) (Refused judged) (taken_valid c count mode moved (core_valid c.filter h)) (refused_valid judged)
+      either (is_ok judged) (taken_of c count mode moved) (Err judged) (taken_valid c count mode moved (core_valid c.filter h)) (refused_valid judged)

@@ -1,20 +1,17 @@
 -- The filter's step for one sample, operation by operation from filter.rs: `summer_transfer`, `advance_filter_core`, `select_filter_output`,
 -- and the refusals 5, 3 and 6 in that order.
-use Rattle.std.specs.Prelude.{ℕ, ◌+◌, ◌%◌, min, Bool, cond, ◌&&◌, List, eqb, ltb, pos, get_or, Float}
+use Rattle.std.specs.Prelude.{ℕ, ◌+◌, ◌%◌, min, Bool, cond, ◌&&◌, List, eqb, ltb, pos, get_or, Float, Err, is_ok, Option, Some, None, Result, Ok}
 use Rattle.std.specs.Float.{nan, binary32}
 use Rattle.std.specs.Float.Ieee.{eq, of_int}
 use Rattle.std.specs.Float.Ieee.Scale.{finite}
 use Rattle.constants.specs.Values as K
-use Rattle.answers.specs.declared.Answer.{Answer}
-use Rattle.answers.specs.declared.Answer.TheVariants.{Done, InputNotFinite, Domain}
+use Rattle.answers.specs.declared.Refusal.TheVariants.{InputNotFinite, Domain}
 use Rattle.answers.specs.declared.Buffer.TheVariants.{Bundle, Curves}
-use Rattle.answers.specs.Answers.{first_of, unless_of, is_done_of}
+use Rattle.answers.specs.Answers.{first_of, unless_of, Answer, done}
 use Rattle.floats.specs.Arithmetic.{◌⊕◌, ◌⊖◌, ◌⊗◌, ◌⊘◌, f32}
 use Rattle.integrator.specs.declared.IntegratorState.{IntegratorState}
 use Rattle.integrator.specs.declared.FilterOutputs.{FilterOutputs}
 use Rattle.integrator.specs.declared.Coefficients.{Coefficients}
-use Rattle.integrator.specs.declared.Substeps.{Substeps}
-use Rattle.integrator.specs.declared.Substeps.TheVariants.{Settled, NotFinite}
 use Rattle.integrator.specs.Integrator.{saturate_of, four_substeps_of}
 use Rattle.response.specs.declared.TablePosition.{TablePosition}
 use Rattle.response.specs.Levels.{interpolate_of, filter_mode_quiescent_level_of}
@@ -27,7 +24,8 @@ use Rattle.controls.specs.declared.FilterControls.{FilterControls}
 use Rattle.controls.specs.declared.ControlCache.{ControlCache}
 use Rattle.sample.specs.declared.Outputs.{Outputs}
 use Rattle.sample.specs.declared.Sampled.{Sampled}
-use Rattle.sample.specs.declared.Sampled.TheVariants.{Taken, Refused}
+use Rattle.integrator.specs.declared.Advanced.{Advanced}
+use Rattle.answers.specs.declared.Refusal.{Refusal}
 
 abbrev one : Float
 one = f32 0x3f80_0000
@@ -92,7 +90,7 @@ coefficients_of damping feedback_drive g =
     record { damping = damping; feedback_drive = feedback_drive; a1 = a1; a2 = g ⊗ a1; a3 = g ⊗ g ⊗ a1 }
 
 -- From the filter's input and the new energy: the bins by the old capacitors, then four substeps from them.
-unfoldable pub moved_of : FilterControls → IntegratorState → Float → Float → Substeps
+unfoldable pub moved_of : FilterControls → IntegratorState → Float → Float → Option Advanced
 moved_of f s input energy =
     let at = operating_position_of input s.band_state s.low_state in
     let feedback_drive = between_bins f.feedback_drive at ⊗ f.resonance_feedback_scale in
@@ -103,10 +101,10 @@ moved_of f s input energy =
     (coefficients_of f.damping feedback_drive g)
 
 -- idle: FilterOutputs::default(), and the state kept
-abbrev pub at_rest_of : IntegratorState → Substeps
-at_rest_of s = Settled (record { outputs = record { high_pass = f32 0; band_pass = f32 0; low_pass = f32 0 }; state = s })
+abbrev pub at_rest_of : IntegratorState → Option Advanced
+at_rest_of s = Some (record { outputs = record { high_pass = f32 0; band_pass = f32 0; low_pass = f32 0 }; state = s })
 
-unfoldable pub advance_filter_core_of : List ℕ → List ℕ → ℕ → MixingTopology → FilterControls → IntegratorState → Float → Float → Substeps
+unfoldable pub advance_filter_core_of : List ℕ → List ℕ → ℕ → MixingTopology → FilterControls → IntegratorState → Float → Float → Option Advanced
 advance_filter_core_of bundle curves slot t f s sum energy =
     cond (is_idle_of t.filter_input_count s) (at_rest_of s)
     (moved_of f s (summer_transfer_of bundle curves slot t sum ⊗ K.filter_input_gain)
@@ -154,7 +152,7 @@ judge_input_of sum energy = unless_of (finite sum && finite energy) InputNotFini
 
 -- 3: an idle sample reads nothing
 abbrev pub judge_reads_of : List ℕ → List ℕ → ℕ → MixingTopology → IntegratorState → Float → Answer
-judge_reads_of bundle curves slot t s sum = cond (is_idle_of t.filter_input_count s) Done (judge_summer_of bundle curves slot t sum)
+judge_reads_of bundle curves slot t s sum = cond (is_idle_of t.filter_input_count s) done (judge_summer_of bundle curves slot t sum)
 
 unfoldable pub judge_sample_of : List ℕ → List ℕ → ℕ → MixingTopology → IntegratorState → Float → Float → Answer
 judge_sample_of bundle curves slot t s sum energy = first_of (judge_input_of sum energy) (judge_reads_of bundle curves slot t s sum)
@@ -164,15 +162,15 @@ abbrev pub outputs_finite : Outputs → Bool
 outputs_finite o = finite o.high && finite o.band && finite o.low && finite o.selected
 
 -- the outputs with the selected value, or 6
-unfoldable pub taken_of : ControlCache → ℕ → ℕ → Substeps → Sampled
-taken_of c count mode NotFinite = Refused Domain
-taken_of c count mode (Settled a) =
+unfoldable pub taken_of : ControlCache → ℕ → ℕ → Option Advanced → Result Sampled Refusal
+taken_of c count mode None = Err Domain
+taken_of c count mode (Some a) =
     let selected = select_filter_output_of c count mode a.outputs in
     cond (finite selected)
-    (Taken (record { high = a.outputs.high_pass; band = a.outputs.band_pass; low = a.outputs.low_pass; selected = selected }) a.state)
-    (Refused Domain)
+    (Ok (record { outputs = (record { high = a.outputs.high_pass; band = a.outputs.band_pass; low = a.outputs.low_pass; selected = selected }); state = a.state }))
+    (Err Domain)
 
-unfoldable pub filter_sample_of : List ℕ → List ℕ → ℕ → MixingTopology → ControlCache → ℕ → IntegratorState → Float → Float → Sampled
+unfoldable pub filter_sample_of : List ℕ → List ℕ → ℕ → MixingTopology → ControlCache → ℕ → IntegratorState → Float → Float → Result Sampled Refusal
 filter_sample_of bundle curves slot t c mode s sum energy =
     let judged = judge_sample_of bundle curves slot t s sum energy in
-    cond (is_done_of judged) (taken_of c t.filter_output_count mode (advance_filter_core_of bundle curves slot t c.filter s sum energy)) (Refused judged)
+    cond (is_ok judged) (taken_of c t.filter_output_count mode (advance_filter_core_of bundle curves slot t c.filter s sum energy)) (Err judged)

@@ -10,7 +10,7 @@ use answers::Answer;
 use bundle::Read;
 use controls::ControlCache;
 use curves::CurvePoint;
-use integrator::{Coefficients, FilterOutputs, IntegratorState, Substeps};
+use integrator::{Coefficients, FilterOutputs, IntegratorState, Option<Advanced>};
 use mixing::MixingTopology;
 use refresh::CoreControls;
 use response::TablePosition;
@@ -109,7 +109,7 @@ pub fn judge_summer(
 }
 
 // The summer's output at rest for a topology: the samples of a run share it until the routing changes.
-pub fn rest_of(bundle: &[u8], topology: MixingTopology) -> Read
+pub fn rest_of(bundle: &[u8], topology: MixingTopology) -> Result<f32, Refusal>
     ensures { result ≡ P.rest_of bundle.now topology }
 {
     curves::read_resting_output(bundle, summer_inputs(topology.filter_input_count))
@@ -128,17 +128,17 @@ fn summed(
     curves: &[u8],
     slot: u8,
     topology: MixingTopology,
-    rest: Read,
+    rest: Result<f32, Refusal>,
     input_sum: f32,
 ) -> CoreInput
     ensures { result ≡ P.summed_of curves.now slot topology rest input_sum }
 {
     let curve = curves::read_curve(curves, slot, average(topology, input_sum));
     match curve {
-        Read::Refused(answer) => CoreInput::Refused(answer),
-        Read::Value(level) => match rest {
-            Read::Refused(answer) => CoreInput::Refused(answer),
-            Read::Value(resting) => CoreInput::Level(level - resting),
+        Err(answer) => Err(answer),
+        Ok(level) => match rest {
+            Err(answer) => Err(answer),
+            Ok(resting) => Ok(Some)(level - resting),
         },
     }
 }
@@ -209,7 +209,7 @@ fn moved(
     input: f32,
     at: TablePosition,
     energy: f32,
-) -> Substeps
+) -> Option<Advanced>
     requires { at ≡ operating_position_of input s.band_state s.low_state }
     ensures { result ≡ S.moved_of (P.filter_of gains.now input_drives.now feedback_drives.now core) s input energy }
 {
@@ -231,10 +231,10 @@ fn moved(
 }
 
 // The core at rest stays as it is and reads nothing.
-fn at_rest(s: IntegratorState) -> Substeps
+fn at_rest(s: IntegratorState) -> Option<Advanced>
     ensures { result ≡ S.at_rest_of s }
 {
-    Substeps::Settled(integrator::Advanced {
+    Some(integrator::Advanced {
         outputs: FilterOutputs {
             high_pass: 0.0,
             band_pass: 0.0,
@@ -303,13 +303,13 @@ fn taken(
     mode_output_gain: f32,
     count: usize,
     mode: u8,
-    moved: Substeps,
+    moved: Option<Advanced>,
 ) -> Sampled
     ensures { result ≡ S.taken_of (P.cache_of [] [] [] core mode_output_gain) count mode moved }
 {
-    let Substeps::Settled(a) = moved else {
+    let Some(a) = moved else {
         return Sampled::Refused {
-            answer: Answer::Domain,
+            answer: Err(Refusal::Domain),
         };
     };
     let o = a.outputs;
@@ -327,7 +327,7 @@ fn taken(
         };
     }
     Sampled::Refused {
-        answer: Answer::Domain,
+        answer: Err(Refusal::Domain),
     }
 }
 
@@ -336,7 +336,7 @@ fn core_input(
     curves: &[u8],
     slot: u8,
     topology: MixingTopology,
-    rest: Read,
+    rest: Result<f32, Refusal>,
     s: IntegratorState,
     input_sum: f32,
     source_energy: f32,
@@ -345,11 +345,11 @@ fn core_input(
 {
     if floats::is_finite(input_sum) & floats::is_finite(source_energy) {
         if is_idle(topology.filter_input_count, s) {
-            return CoreInput::Idle;
+            return Ok(None);
         }
         return summed(curves, slot, topology, rest, input_sum);
     }
-    CoreInput::Refused(Answer::InputNotFinite)
+    Err(Refusal::InputNotFinite)
 }
 
 // One sample of the filter on the parts of the controls, with the summer's rest worked out before. The operating bin is guessed from `earlier`, capacitors that are
@@ -363,7 +363,7 @@ pub fn sample_from_parts(
     feedback_drives: &[f32; 16],
     core: CoreControls,
     mode_output_gain: f32,
-    rest: Read,
+    rest: Result<f32, Refusal>,
     mode: u8,
     s: IntegratorState,
     earlier: IntegratorState,
@@ -377,9 +377,9 @@ pub fn sample_from_parts(
     let count = topology.filter_output_count;
     let fed = core_input(curves, slot, topology, rest, s, input_sum, source_energy);
     match fed {
-        CoreInput::Idle => taken(core, mode_output_gain, count, mode, at_rest(s)),
-        CoreInput::Refused(answer) => Sampled::Refused { answer },
-        CoreInput::Level(level) => {
+        Ok(None) => taken(core, mode_output_gain, count, mode, at_rest(s)),
+        Err(answer) => Sampled::Refused { answer },
+        Ok(Some)(level) => {
             let energy = tracked_energy(
                 s.filter_source_energy,
                 fed_energy(topology, source_energy),

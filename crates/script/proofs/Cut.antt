@@ -13,10 +13,9 @@ use Rattle.floats.proofs.Laws.{both}
 use Rattle.wire.specs.Wire.{Bytes, byte_at, u32_at, f32_at, bytes_of}
 use Rattle.wire.proofs.Laws.{length-bytes_of, number_at-bytes_of, number_at-first, number_at-second, bytes_of-number_at}
 use Rattle.script.specs.declared.Event.{Event}
-use Rattle.script.specs.declared.DecodedEvent.{DecodedEvent}
-use Rattle.script.specs.declared.DecodedEvent.TheVariants.{Readable, Unreadable}
 use Rattle.script.specs.Script.{kind_of, decode_event_of, is_readable, slices_in, event_count_of, slices_of, all_readable, cons_of, events_in, events_of, samples_of, header_ok, well_formed}
 use Rattle.script.specs.Pieces.{joined, script_of, AllWellFormed}
+use Rattle.std.specs.Prelude.{Option, Some, None}
 
 -- ---- readable slices
 
@@ -25,7 +24,7 @@ unfolding decode_event_of
 readable_long b h = go (eqb (length b) 12) refl h
   where
     go : (t : Bool) → eqb (length b) 12 ≡ t
-        → is_readable (cond (t && eqb (byte_at b 2) 0 && eqb (byte_at b 3) 0) (kind_of (byte_at b 0) (byte_at b 1) (f32_at b 4) (f32_at b 8)) Unreadable) ≡ true → length b ≡ 12
+        → is_readable (cond (t && eqb (byte_at b 2) 0 && eqb (byte_at b 3) 0) (kind_of (byte_at b 0) (byte_at b 1) (f32_at b 4) (f32_at b 8)) None) ≡ true → length b ≡ 12
     go true e h = eqb-true (length b) 12 e
     go false e h = absurd (true≢false (sym h))
 
@@ -92,9 +91,9 @@ unfolding events_in
 events_append [] b = refl
 events_append (x ∷ a) b = rw (events_append a b) (cons_append (decode_event_of x) (events_in a) (events_in b))
   where
-    cons_append : (d : DecodedEvent) (es fs : List Event) → cons_of d (es ++ fs) ≡ cons_of d es ++ fs
-    cons_append (Readable e) es fs = refl
-    cons_append Unreadable es fs = refl
+    cons_append : (d : Option Event) (es fs : List Event) → cons_of d (es ++ fs) ≡ cons_of d es ++ fs
+    cons_append (Some e) es fs = refl
+    cons_append None es fs = refl
 
 pub samples_append : (es fs : List Event) → samples_of (es ++ fs) ≡ samples_of es + samples_of fs
 unfolding samples_of
@@ -128,9 +127,9 @@ length_events (b ∷ bs) h =
     let r = both (is_readable (decode_event_of b)) (all_readable bs) h in
     one_more (decode_event_of b) (events_in bs) r.0 ∙ ap suc (length_events bs r.1)
   where
-    one_more : (d : DecodedEvent) (es : List Event) → is_readable d ≡ true → length (cons_of d es) ≡ suc (length es)
-    one_more (Readable e) es h = refl
-    one_more Unreadable es h = absurd (true≢false (sym h))
+    one_more : (d : Option Event) (es : List Event) → is_readable d ≡ true → length (cons_of d es) ≡ suc (length es)
+    one_more (Some e) es h = refl
+    one_more None es h = absurd (true≢false (sym h))
 
 -- what a well-formed script has
 pub record Header (s : List ℕ) : Type 0 where

@@ -1,35 +1,33 @@
 -- The script (docs/FORMATS.md): a header of two words, event count and offset, and 12 bytes an event.
-use Rattle.std.specs.Prelude.{ℕ, zero, suc, ◌+◌, ◌*◌, Bool, true, false, cond, ◌&&◌, List, [], ◌∷◌, leb, eqb, length, take, drop, Float}
+use Rattle.std.specs.Prelude.{ℕ, zero, suc, ◌+◌, ◌*◌, Bool, true, false, cond, ◌&&◌, List, [], ◌∷◌, leb, eqb, length, take, drop, Float, Err, Option, Some, None, Result, Ok}
 use Rattle.wire.specs.Wire.{byte_at, u32_at, f32_at}
-use Rattle.answers.specs.declared.Answer.TheVariants.{Script}
+use Rattle.answers.specs.declared.Refusal.TheVariants.{Script}
 use Rattle.script.specs.declared.Event.{Event}
 use Rattle.script.specs.declared.Event.TheVariants.{CutoffLow, CutoffHigh, Routing, Mode, Sample, Reset}
-use Rattle.script.specs.declared.DecodedEvent.{DecodedEvent}
-use Rattle.script.specs.declared.DecodedEvent.TheVariants.{Readable, Unreadable}
 use Rattle.script.specs.declared.Checked.{Checked}
-use Rattle.script.specs.declared.Checked.TheVariants.{WellFormed, Refused}
+use Rattle.answers.specs.declared.Refusal.{Refusal}
 
 -- ---- an event
 
 -- By its kind, its value and its two floats. A kind above 5 cannot be read.
-unfoldable pub kind_of : ℕ → ℕ → Float → Float → DecodedEvent
+unfoldable pub kind_of : ℕ → ℕ → Float → Float → Option Event
 kind_of kind value input_sum source_energy =
-    cond (eqb kind 0) (Readable (CutoffLow value))
-    (cond (eqb kind 1) (Readable (CutoffHigh value))
-    (cond (eqb kind 2) (Readable (Routing value))
-    (cond (eqb kind 3) (Readable (Mode value))
-    (cond (eqb kind 4) (Readable (Sample input_sum source_energy))
-    (cond (eqb kind 5) (Readable Reset) Unreadable)))))
+    cond (eqb kind 0) (Some (CutoffLow value))
+    (cond (eqb kind 1) (Some (CutoffHigh value))
+    (cond (eqb kind 2) (Some (Routing value))
+    (cond (eqb kind 3) (Some (Mode value))
+    (cond (eqb kind 4) (Some (Sample input_sum source_energy))
+    (cond (eqb kind 5) (Some Reset) None)))))
 
 -- Twelve bytes: kind, value, two zero bytes, input sum f32, source energy f32. Fields that a kind does not use are ignored.
-unfoldable pub decode_event_of : List ℕ → DecodedEvent
+unfoldable pub decode_event_of : List ℕ → Option Event
 decode_event_of b =
     cond (eqb (length b) 12 && eqb (byte_at b 2) 0 && eqb (byte_at b 3) 0)
     (kind_of (byte_at b 0) (byte_at b 1) (f32_at b 4) (f32_at b 8))
-    Unreadable
+    None
 
 -- At a place of a script: what does not lie whole in it cannot be read.
-abbrev pub event_at : List ℕ → ℕ → DecodedEvent
+abbrev pub event_at : List ℕ → ℕ → Option Event
 event_at s place = decode_event_of (take 12 (drop place s))
 
 -- ---- the events of a script
@@ -47,18 +45,18 @@ abbrev pub slices_of : List ℕ → List (List ℕ)
 slices_of s = slices_in (event_count_of s) (drop 8 s)
 
 -- Whether each can be read.
-abbrev pub is_readable : DecodedEvent → Bool
-is_readable (Readable e) = true
-is_readable Unreadable = false
+abbrev pub is_readable : Option Event → Bool
+is_readable (Some e) = true
+is_readable None = false
 
 unfoldable pub all_readable : List (List ℕ) → Bool
 all_readable [] = true
 all_readable (b ∷ bs) = is_readable (decode_event_of b) && all_readable bs
 
 -- The events that can be read, in order: all of them in a well-formed script.
-abbrev pub cons_of : DecodedEvent → List Event → List Event
-cons_of (Readable e) es = e ∷ es
-cons_of Unreadable es = es
+abbrev pub cons_of : Option Event → List Event → List Event
+cons_of (Some e) es = e ∷ es
+cons_of None es = es
 
 unfoldable pub events_in : List (List ℕ) → List Event
 events_in [] = []
@@ -91,9 +89,9 @@ unfoldable pub well_formed : List ℕ → Bool
 well_formed s = header_ok s && all_readable (slices_of s)
 
 -- The check of count events in these slices.
-unfoldable pub tally_of : ℕ → List (List ℕ) → Checked
-tally_of count bs = cond (all_readable bs) (WellFormed count (samples_of (events_in bs))) (Refused Script)
+unfoldable pub tally_of : ℕ → List (List ℕ) → Result Checked Refusal
+tally_of count bs = cond (all_readable bs) (Ok (record { events = count; samples = (samples_of (events_in bs)) })) (Err Script)
 
 -- The numbers of events and of samples, or refusal 7.
-unfoldable pub check_script_of : List ℕ → Checked
-check_script_of s = cond (well_formed s) (WellFormed (event_count_of s) (samples_of (events_of s))) (Refused Script)
+unfoldable pub check_script_of : List ℕ → Result Checked Refusal
+check_script_of s = cond (well_formed s) (Ok (record { events = (event_count_of s); samples = (samples_of (events_of s)) })) (Err Script)

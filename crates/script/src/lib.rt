@@ -19,7 +19,7 @@ pub enum Event {
 
 // What the bytes of an event stand for.
 #[derive(Clone, Copy)]
-pub enum DecodedEvent {
+pub enum Option<Event> {
     Readable(Event),
     Unreadable,
 }
@@ -32,30 +32,30 @@ pub enum Checked {
 }
 
 // The event of twelve bytes.
-fn decode_event(bytes: &[u8]) -> DecodedEvent
+fn decode_event(bytes: &[u8]) -> Option<Event>
     ensures { result ≡ decode_event_of bytes.now }
 {
     if (bytes.len() == 12) & (wire::byte_at(bytes, 2) == 0) & (wire::byte_at(bytes, 3) == 0) {
         let value = wire::byte_at(bytes, 1);
         let kind = wire::byte_at(bytes, 0);
         return match kind {
-            0 => DecodedEvent::Readable(Event::CutoffLow(value)),
-            1 => DecodedEvent::Readable(Event::CutoffHigh(value)),
-            2 => DecodedEvent::Readable(Event::Routing(value)),
-            3 => DecodedEvent::Readable(Event::Mode(value)),
-            4 => DecodedEvent::Readable(Event::Sample {
+            0 => Some(Event::CutoffLow(value)),
+            1 => Some(Event::CutoffHigh(value)),
+            2 => Some(Event::Routing(value)),
+            3 => Some(Event::Mode(value)),
+            4 => Some(Event::Sample {
                 input_sum: wire::f32_at(bytes, 4),
                 source_energy: wire::f32_at(bytes, 8),
             }),
-            5 => DecodedEvent::Readable(Event::Reset),
-            _ => DecodedEvent::Unreadable,
+            5 => Some(Event::Reset),
+            _ => None,
         };
     }
-    DecodedEvent::Unreadable
+    None
 }
 
 // The event at a place of a script.
-pub fn event_at(script: &[u8], place: usize) -> DecodedEvent
+pub fn event_at(script: &[u8], place: usize) -> Option<Event>
     ensures { result ≡ event_at script.now place }
 {
     if 12 <= script.len() {
@@ -64,7 +64,7 @@ pub fn event_at(script: &[u8], place: usize) -> DecodedEvent
             return decode_event(&script[place..end]);
         }
     }
-    DecodedEvent::Unreadable
+    None
 }
 
 // 1 for a sample, 0 for any other event.
@@ -92,8 +92,8 @@ fn tally(script: &[u8], count: usize) -> Checked
     let mut samples = 0;
     let mut i = 0;
     while i < count {
-        let DecodedEvent::Readable(event) = event_at(script, 8 + 12 * i) else {
-            return Checked::Refused(Answer::Script);
+        let Some(event) = event_at(script, 8 + 12 * i) else {
+            return Checked::Refused(Err(Refusal::Script));
         };
         samples += sample_count(event);
         i += 1;
@@ -112,5 +112,5 @@ pub fn check_script(script: &[u8]) -> Checked
     if (count <= 65536) & (wire::u32_at(script, 4) == 8) & (script.len() == 8 + 12 * count) {
         return tally(script, count);
     }
-    Checked::Refused(Answer::Script)
+    Checked::Refused(Err(Refusal::Script))
 }

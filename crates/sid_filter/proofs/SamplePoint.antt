@@ -8,9 +8,8 @@ use lib.ListN.{length, replicate}
 use lib.Ieee.{Float, binary32, of_bits, fits, le}
 use lib.Ieee.Scale.{finite}
 use borrow.Author.Tests.{eq-eqb}
-use Rattle.answers.specs.declared.Answer.{Answer}
-use Rattle.answers.specs.declared.Answer.TheVariants.{Done, BundleLength, Header, CurvesLength, InputNotFinite, Script, Argument}
-use Rattle.answers.specs.Answers.{number_of, is_done_of, first_of, unless_of}
+use Rattle.answers.specs.declared.Refusal.TheVariants.{BundleLength, Header, CurvesLength, InputNotFinite, Script, Argument}
+use Rattle.answers.specs.Answers.{number_of, first_of, unless_of, Answer, done}
 use Rattle.answers.proofs.Laws.{done_is, first_assoc, first_of_done}
 use Rattle.wire.specs.Wire.{number_at}
 use Rattle.bundle.specs.Layout.{bundle_length, header_length}
@@ -20,8 +19,6 @@ use Rattle.curves.specs.Sampling.{no_point}
 use Rattle.curves.specs.Building.{curves_length}
 use Rattle.transients.specs.Block.{factor_at, judge_decays_of}
 use Rattle.control.specs.declared.State.{State}
-use Rattle.control.specs.declared.DecodedState.{DecodedState}
-use Rattle.control.specs.declared.DecodedState.TheVariants.{Valid, Invalid}
 use Rattle.control.specs.Block.{fields_of, decode_of}
 use Rattle.control.proofs.RoundTrip.{decoded}
 use Rattle.controls.specs.Judging.{judge_controls_of}
@@ -37,6 +34,7 @@ use Rattle.points.proofs.Laws.{script_formed, script_events}
 use Rattle.sid_filter.specs.declared.RunAnswer.{RunAnswer}
 use Rattle.sid_filter.specs.declared.PointAnswer.{PointAnswer}
 use Rattle.sid_filter.specs.Calls.{run_answer_of, ran_answer_of, uncounted_of, point_answer_of}
+use Rattle.std.specs.Prelude.{Err, is_ok, Option, Some, None}
 
 -- What is lent is not refused with 7.
 lent_other : (l : Lent) → eqb (number_of (judge_lent_of l)) 7 ≡ false
@@ -55,7 +53,7 @@ lent_other l =
 run_answered : (l : Lent) (block script output : List ℕ)
     → (run_of l block script output).answer ≡ first_of (judge_run_of l block script (length output)) (played_of l (fields_of block) (events_of script)).answer
 unfolding run_of
-run_answered l block script output = go (is_done_of (judge_run_of l block script (length output))) _ _
+run_answered l block script output = go (is_ok (judge_run_of l block script (length output))) _ _
   where
     go : (d : Bool) (x y : Run) → (cond d x y).answer ≡ cond d x.answer y.answer
     go true x y = refl
@@ -63,9 +61,9 @@ run_answered l block script output = go (is_done_of (judge_run_of l block script
 
 played_one : (l : Lent) (s : State) (e : Event) → (played_of l s (e ∷ [])).answer ≡ first_of (judge_controls_of l.bundle s) (plain_step l s e).answer
 unfolding played_of play_of
-played_one l s e = go (is_done_of (judge_controls_of l.bundle s)) (is_done_of (plain_step l s e).answer) refl refl
+played_one l s e = go (is_ok (judge_controls_of l.bundle s)) (is_ok (plain_step l s e).answer) refl refl
   where
-    go : (c d : Bool) → is_done_of (judge_controls_of l.bundle s) ≡ c → is_done_of (plain_step l s e).answer ≡ d
+    go : (c d : Bool) → is_ok (judge_controls_of l.bundle s) ≡ c → is_ok (plain_step l s e).answer ≡ d
         → (played_of l s (e ∷ [])).answer ≡ first_of (judge_controls_of l.bundle s) (plain_step l s e).answer
     go true true h i = rw (h, i) (sym (done_is _ i))
     go true false h i = rw (h, i) refl
@@ -76,7 +74,7 @@ played_one l s e = go (is_done_of (judge_controls_of l.bundle s)) (is_done_of (p
 abbrev pub zero_decays : Lent → Lent
 zero_decays l = lent_all l.bundle l.curves (replicate 24 0)
 
-zeros_judged : judge_decays_of (replicate 24 0) ≡ Done
+zeros_judged : judge_decays_of (replicate 24 0) ≡ done
 unfolding judge_decays_of factor_at number_at of_bits le
 zeros_judged = refl
 
@@ -101,7 +99,7 @@ module _ (l : Lent) (block : List ℕ) (sum energy : Float) where
   no_run = (run_of (zero_decays l) block [] output).answer
 
   -- the script of one sample is readable, and the output has room for it
-  one_judged : T (fits binary32 sum) → T (fits binary32 energy) → judge_script_of (sample_script_of sum energy) (length output) ≡ Done
+  one_judged : T (fits binary32 sum) → T (fits binary32 energy) → judge_script_of (sample_script_of sum energy) (length output) ≡ done
   unfolding judge_script_of samples_of
   one_judged f g = rw (script_formed sum energy, script_events sum energy f g) refl
 
@@ -111,11 +109,11 @@ module _ (l : Lent) (block : List ℕ) (sum energy : Float) where
       run_answered (zero_decays l) block (sample_script_of sum energy) output
       ∙ rw (zeros_judged, one_judged f g, script_events sum energy f g) (go (decode_of block) refl)
     where
-      go : (d : DecodedState) → decode_of block ≡ d
-          → first_of (first_of (judge_lent_of l) (first_of (unless_of (is_valid d) Argument) Done)) (played_of (zero_decays l) (fields_of block) (Sample sum energy ∷ [])).answer
+      go : (d : Option State) → decode_of block ≡ d
+          → first_of (first_of (judge_lent_of l) (first_of (unless_of (is_valid d) Argument) done)) (played_of (zero_decays l) (fields_of block) (Sample sum energy ∷ [])).answer
           ≡ (pointed_of l d sum energy).answer
-      go Invalid h = first_assoc (judge_lent_of l) Argument _
-      go (Valid s) h =
+      go None h = first_assoc (judge_lent_of l) Argument _
+      go (Some s) h =
           rw ((decoded block s h).fields, played_one (zero_decays l) s (Sample sum energy), sample_alike l s sum energy, known, first_of_done (judge_lent_of l)) refl
 
   -- no script is not readable
@@ -127,15 +125,15 @@ module _ (l : Lent) (block : List ℕ) (sum energy : Float) where
   unfolding sample_point_call_of sample_refusal_of judge_run_of
   no_run_lem unknown =
       rw (run_answered (zero_decays l) block [] output, zeros_judged, none_judged)
-      (go (decode_of block) (is_done_of (judge_lent_of l)) refl (played_of (zero_decays l) (fields_of block) (events_of [])).answer)
+      (go (decode_of block) (is_ok (judge_lent_of l)) refl (played_of (zero_decays l) (fields_of block) (events_of [])).answer)
     where
-      go : (d : DecodedState) (b : Bool) → is_done_of (judge_lent_of l) ≡ b → (played : Answer)
+      go : (d : Option State) (b : Bool) → is_ok (judge_lent_of l) ≡ b → (played : Answer)
           → let judged = first_of (first_of (judge_lent_of l) (first_of (unless_of (is_valid d) Argument) Script)) played in
           cond (eqb (number_of judged) 7) InputNotFinite judged ≡ (pointed_of l d sum energy).answer
-      go Invalid true h played = rw h refl
-      go Invalid false h played = rw (h, h, lent_other l) refl
-      go (Valid s) true h played = rw (h, unknown) refl
-      go (Valid s) false h played = rw (h, h, lent_other l) refl
+      go None true h played = rw h refl
+      go None false h played = rw (h, h, lent_other l) refl
+      go (Some s) true h played = rw (h, unknown) refl
+      go (Some s) false h played = rw (h, h, lent_other l) refl
 
   -- ---- as `sample_answer` makes its answer of them
 
@@ -163,14 +161,14 @@ module _ (l : Lent) (block : List ℕ) (sum energy : Float) where
     unfolding sample_point_call_of
     done_point zero p = rw (is, p) (ap (beside (run_answer_of (sample_point_call_of l block sum energy).answer 0 0)) (go (decode_of block) refl (eq-eqb _ 0 (sym (ap (λ (t : RunAnswer). t.number) is) ∙ zero))))
       where
-        go : (d : DecodedState) → decode_of block ≡ d → is_done_of (pointed_of l d sum energy).answer ≡ true → state_point_of l (fields_of block) sum ≡ (pointed_of l d sum energy).point
-        go Invalid h done = absurd (true≢false (sym done ∙ then_argument (judge_lent_of l)))
-        go (Valid s) h done = rw (done, (decoded block s h).fields) refl
+        go : (d : Option State) → decode_of block ≡ d → is_ok (pointed_of l d sum energy).answer ≡ true → state_point_of l (fields_of block) sum ≡ (pointed_of l d sum energy).point
+        go None h done = absurd (true≢false (sym done ∙ then_argument (judge_lent_of l)))
+        go (Some s) h done = rw (done, (decoded block s h).fields) refl
 
     pub refused_point : eqb told.number 0 ≡ false → beside told no_point ≡ point_answer_of (sample_point_call_of l block sum energy)
     unfolding sample_point_call_of
     refused_point other = rw is (ap (beside (run_answer_of (sample_point_call_of l block sum energy).answer 0 0)) (go (decode_of block) (rw is at other)))
       where
-        go : (d : DecodedState) → is_done_of (pointed_of l d sum energy).answer ≡ false → no_point ≡ (pointed_of l d sum energy).point
-        go Invalid refused = refl
-        go (Valid s) refused = rw refused refl
+        go : (d : Option State) → is_ok (pointed_of l d sum energy).answer ≡ false → no_point ≡ (pointed_of l d sum energy).point
+        go None refused = refl
+        go (Some s) refused = rw refused refl

@@ -1,7 +1,6 @@
 -- What the C interface answers.
 use Rattle.std.specs.Prelude.{ℕ}
-use Rattle.answers.specs.declared.Answer.{Answer}
-use Rattle.answers.specs.Answers.{number_of, buffer_of, place_of}
+use Rattle.answers.specs.Answers.{number_of, buffer_of, place_of, Answer}
 use Rattle.run.specs.Run.{Run}
 use Rattle.direct.specs.declared.Pointed.{Pointed}
 use Rattle.sid_filter.specs.declared.RunAnswer.{RunAnswer}

@@ -86,7 +86,7 @@ pub extern "C" fn sid_filter_widen_state(block: &[u8], wide: &mut [u8]) -> RunAn
     ensures wide_after { wide.new ≡ widened_of block.now wide.old }
 {
     let widened = State::widen(block, wide);
-    run_answer(answers::unless(widened, Answer::Argument), 0, 0)
+    run_answer(answers::unless(widened, Refusal::Argument), 0, 0)
 }
 
 // Runs a script from the state in its block: the samples go into the output, the state after them into the block. Refuses 1, 2, 4, 10, 12, 7, 8 and then
@@ -201,7 +201,7 @@ fn sample_answer(bundle: &[u8], curves: &[u8], state: &[u8], sum: f32, energy: f
 {
     if state.len() != State::BYTES {
         let lent = filter::judge_lent(bundle, curves);
-        return run_answer(answers::first(lent, Answer::Argument), 0, 0);
+        return run_answer(answers::first(lent, Err(Refusal::Argument)), 0, 0);
     }
     if floats::is_finite(sum) & floats::is_finite(energy) {
         let script = points::sample_script(sum, energy);
@@ -209,7 +209,7 @@ fn sample_answer(bundle: &[u8], curves: &[u8], state: &[u8], sum: f32, energy: f
     }
     let told = tried(bundle, curves, state, &state[0..0]);
     if told.number == 7 {
-        return run_answer(Answer::InputNotFinite, 0, 0);
+        return run_answer(Err(Refusal::InputNotFinite), 0, 0);
     }
     uncounted(told)
 }

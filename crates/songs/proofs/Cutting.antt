@@ -8,14 +8,11 @@ use mathlib.Core.List.{List, [], ◌∷◌, ◌++◌, append_assoc}
 use lib.ListN.{length, drop, length-append}
 use lib.Seq.{take_at}
 use borrow.Author.Tests.{le-leb}
-use Rattle.answers.specs.declared.Answer.{Answer}
-use Rattle.answers.specs.declared.Answer.TheVariants.{Done}
-use Rattle.answers.specs.Answers.{first_of, is_done_of}
+use Rattle.answers.specs.Answers.{first_of, Answer, done}
 use Rattle.answers.proofs.Laws.{done_is, first_assoc, first_of_done}
 use Rattle.wire.specs.Wire.{Bytes}
 use Rattle.transients.specs.Block.{judge_decays_of}
 use Rattle.control.specs.declared.State.{State}
-use Rattle.control.specs.declared.DecodedState.TheVariants.{Valid}
 use Rattle.control.specs.Block.{valid_of, block_of, decode_of}
 use Rattle.control.proofs.RoundTrip.{fields_block, decode_block, decoded, encode_decoded}
 use Rattle.controls.specs.Judging.{judge_controls_of}
@@ -27,6 +24,7 @@ use Rattle.run.specs.Run.{Ran, stopped, went, play_of, played_of, sample_bytes, 
 use Rattle.songs.specs.Pieces.{Piece, events_of_all, Ready, AllReady, Told, told, told_ran, join_told, pieces_of, plain_told}
 use Rattle.run.proofs.Bytes.{length_outputs, outputs_append}
 use Rattle.run.proofs.Good.{Good, good_play}
+use Rattle.std.specs.Prelude.{is_ok, Some, None}
 
 -- ---- one run after another
 
@@ -35,9 +33,9 @@ join r t = record { answer = t.answer; events = r.events + t.events; samples = r
 
 -- a run, and then, if it did not stop, the next from where it ended
 abbrev and_then : Ran → (State → Ran) → Ran
-and_then r f = cond (is_done_of r.answer) (join r (f r.state)) r
+and_then r f = cond (is_ok r.answer) (join r (f r.state)) r
 
-join_stopped : (s : State) (t : Ran) → join (stopped Done s) t ≡ t
+join_stopped : (s : State) (t : Ran) → join (stopped done s) t ≡ t
 join_stopped s t = simp (zero-add)
 
 went_join : (p : Plain) (r t : Ran) → went p (join r t) ≡ join (went p r) t
@@ -47,16 +45,16 @@ went_join p r t = simp (append_assoc, add_suc r.events t.events)
     add_suc a b = omega arith
 
 went_then : (p : Plain) (r : Ran) (f : State → Ran) → went p (and_then r f) ≡ and_then (went p r) f
-went_then p r f = go (is_done_of r.answer) refl
+went_then p r f = go (is_ok r.answer) refl
   where
-    go : (d : Bool) → is_done_of r.answer ≡ d → went p (cond d (join r (f r.state)) r) ≡ cond d (join (went p r) (f r.state)) (went p r)
+    go : (d : Bool) → is_ok r.answer ≡ d → went p (cond d (join r (f r.state)) r) ≡ cond d (join (went p r) (f r.state)) (went p r)
     go true h = went_join p r (f r.state)
     go false h = refl
 
 -- ---- the events, cut once
 
 -- d is whether the event went
-cut_event : (d : Bool) (p : Plain) (s : State) (r t : Ran) (f : State → Ran) → is_done_of p.answer ≡ d → r ≡ and_then t f
+cut_event : (d : Bool) (p : Plain) (s : State) (r t : Ran) (f : State → Ran) → is_ok p.answer ≡ d → r ≡ and_then t f
     → cond d (went p r) (stopped p.answer s) ≡ and_then (cond d (went p t) (stopped p.answer s)) f
 cut_event true p s r t f h e = ap (went p) e ∙ went_then p t f
 cut_event false p s r t f h e = rw h refl
@@ -67,13 +65,13 @@ module _ (lent : Lent) where
   play_cut s [] fs = sym (join_stopped s (play_of lent s fs))
   play_cut s (e ∷ es) fs =
       let p = plain_step lent s e in
-      cut_event (is_done_of p.answer) p s (play_of lent p.state (es ++ fs)) (play_of lent p.state es) (λ t. play_of lent t fs) refl (play_cut p.state es fs)
+      cut_event (is_ok p.answer) p s (play_of lent p.state (es ++ fs)) (play_of lent p.state es) (λ t. play_of lent t fs) refl (play_cut p.state es fs)
 
   -- ---- with the start of each run
 
   module _ (s : State) (valid : valid_of s ≡ true) where
     abbrev started : Bool
-    started = is_done_of (judge_controls_of lent.bundle s)
+    started = is_ok (judge_controls_of lent.bundle s)
 
     good : started ≡ true → Good lent s
     good h = record { valid = valid; judged = done_is (judge_controls_of lent.bundle s) h }
@@ -98,7 +96,7 @@ module _ (lent : Lent) where
             ≡ and_then (cond d (play_of lent s es) (stopped (judge_controls_of lent.bundle s) s)) (λ t. played_of lent t fs)
         go true h =
             let r = play_of lent s es in
-            play_cut s es fs ∙ ap (λ (x : Ran). cond (is_done_of r.answer) (join r x) r) (restart r.state (good_play lent s es (good h)))
+            play_cut s es fs ∙ ap (λ (x : Ran). cond (is_ok r.answer) (join r x) r) (restart r.state (good_play lent s es (good h)))
         go false h = rw h refl
 
 -- ---- on bytes
@@ -130,11 +128,11 @@ module _ (lent : Lent) (s : State) (v : valid_of s ≡ true) where
     unfolding judge_run_of judge_script_of
     run_judged = rw (decode_block s v, fine.0, le-leb (16 * samples_of (events_of p.script)) (length p.output) fine.1, first_of_done (judge_decays_of lent.decays)) refl
 
-    piece_told : lent_judged lent ≡ Done → run_told p ≡ told_ran (played_of lent s (events_of p.script))
+    piece_told : lent_judged lent ≡ done → run_told p ≡ told_ran (played_of lent s (events_of p.script))
     unfolding run_of
     piece_told ready = rw (run_judged ∙ ready, fields_block s v) (told_left (played_of lent s (events_of p.script)) p.output)
 
-    piece_refused : is_done_of (lent_judged lent) ≡ false → run_told p ≡ told_ran (stopped (lent_judged lent) s)
+    piece_refused : is_ok (lent_judged lent) ≡ false → run_told p ≡ told_ran (stopped (lent_judged lent) s)
     unfolding run_of sample_bytes
     piece_refused h = rw (run_judged, h) refl
 
@@ -145,11 +143,11 @@ module _ (lent : Lent) (s : State) (es : List Event) (v : valid_of s ≡ true) w
   unfolding plain_start
   start_lent = rw v (sym (first_assoc (judge_lent_of lent) (judge_decays_of lent.decays) (judge_controls_of lent.bundle s)))
 
-  plain_goes : lent_judged lent ≡ Done → told_ran (played_of lent s es) ≡ plain_told lent s es
+  plain_goes : lent_judged lent ≡ done → told_ran (played_of lent s es) ≡ plain_told lent s es
   unfolding plain_told played_of
   plain_goes ready = rw (start_lent, ready) refl
 
-  plain_stops : is_done_of (lent_judged lent) ≡ false → told_ran (stopped (lent_judged lent) s) ≡ plain_told lent s es
+  plain_stops : is_ok (lent_judged lent) ≡ false → told_ran (stopped (lent_judged lent) s) ≡ plain_told lent s es
   unfolding plain_told
   plain_stops h = let is : plain_start lent s ≡ lent_judged lent = start_lent ∙ rw h refl in rw (is, h) refl
 
@@ -158,9 +156,9 @@ module _ (lent : Lent) (s : State) (es : List Event) (v : valid_of s ≡ true) w
 module _ (lent : Lent) where
   -- the pieces after one, by what it told
   abbrev onward : Piece → List Piece → Told → Told
-  onward q rest t = cond (is_done_of t.answer) (join_told t (pieces_of lent t.block q rest)) t
+  onward q rest t = cond (is_ok t.answer) (join_told t (pieces_of lent t.block q rest)) t
 
-  pieces_told : lent_judged lent ≡ Done → (s : State) (p : Piece) (rest : List Piece) → valid_of s ≡ true → AllReady p rest
+  pieces_told : lent_judged lent ≡ done → (s : State) (p : Piece) (rest : List Piece) → valid_of s ≡ true → AllReady p rest
       → pieces_of lent (block_of s) p rest ≡ told_ran (played_of lent s (events_of_all p rest))
   unfolding pieces_of
   pieces_told ready s p [] v fine = piece_told lent s v p fine ready
@@ -168,11 +166,11 @@ module _ (lent : Lent) where
       let es = events_of p.script in
       let r = played_of lent s es in
       ap (onward q rest) (piece_told lent s v p fine.0 ready)
-      ∙ ap (λ (x : Told). cond (is_done_of r.answer) (join_told (told_ran r) x) (told_ran r)) (pieces_told ready r.state q rest (played_valid lent s v es) fine.1)
-      ∙ told_then (is_done_of r.answer) r (played_of lent r.state (events_of_all q rest))
+      ∙ ap (λ (x : Told). cond (is_ok r.answer) (join_told (told_ran r) x) (told_ran r)) (pieces_told ready r.state q rest (played_valid lent s v es) fine.1)
+      ∙ told_then (is_ok r.answer) r (played_of lent r.state (events_of_all q rest))
       ∙ ap told_ran (sym (played_cut lent s v es (events_of_all q rest)))
 
-  pieces_refused : is_done_of (lent_judged lent) ≡ false → (s : State) (p : Piece) (rest : List Piece) → valid_of s ≡ true → AllReady p rest
+  pieces_refused : is_ok (lent_judged lent) ≡ false → (s : State) (p : Piece) (rest : List Piece) → valid_of s ≡ true → AllReady p rest
       → pieces_of lent (block_of s) p rest ≡ told_ran (stopped (lent_judged lent) s)
   unfolding pieces_of
   pieces_refused h s p [] v fine = piece_refused lent s v p fine h
@@ -180,9 +178,9 @@ module _ (lent : Lent) where
 
   -- the plain machine beside them
   pieces_plain : (s : State) (p : Piece) (rest : List Piece) → valid_of s ≡ true → AllReady p rest → pieces_of lent (block_of s) p rest ≡ plain_told lent s (events_of_all p rest)
-  pieces_plain s p rest v fine = go (is_done_of (lent_judged lent)) refl
+  pieces_plain s p rest v fine = go (is_ok (lent_judged lent)) refl
     where
-      go : (d : Bool) → is_done_of (lent_judged lent) ≡ d → pieces_of lent (block_of s) p rest ≡ plain_told lent s (events_of_all p rest)
+      go : (d : Bool) → is_ok (lent_judged lent) ≡ d → pieces_of lent (block_of s) p rest ≡ plain_told lent s (events_of_all p rest)
       go true h = let ready = done_is (lent_judged lent) h in pieces_told ready s p rest v fine ∙ plain_goes lent s (events_of_all p rest) v ready
       go false h = pieces_refused h s p rest v fine ∙ plain_stops lent s (events_of_all p rest) v h
 
@@ -193,7 +191,7 @@ pub record Demand3Cut (lent : Lent) (block : List ℕ) (s : State) (p : Piece) (
   pub plain : pieces_of lent block p rest ≡ plain_told lent s (events_of_all p rest)
   pub uncut : (whole : Piece) → Ready whole → events_of whole.script ≡ events_of_all p rest → pieces_of lent block p rest ≡ told (run_of lent block whole.script whole.output)
 
-pub demand_3_cut : (lent : Lent) (block : List ℕ) (s : State) (p : Piece) (rest : List Piece) → Bytes block → decode_of block ≡ Valid s → AllReady p rest → Demand3Cut lent block s p rest
+pub demand_3_cut : (lent : Lent) (block : List ℕ) (s : State) (p : Piece) (rest : List Piece) → Bytes block → decode_of block ≡ Some s → AllReady p rest → Demand3Cut lent block s p rest
 unfolding pieces_of
 demand_3_cut lent block s p rest bytes d fine =
     let v = (decoded block s d).valid in

@@ -4,8 +4,6 @@ use mathlib.Core.Path.{◌≡◌, refl, sym, ap, ◌∙◌}
 use mathlib.Core.Bool.{Bool, true, false, cond}
 use mathlib.Core.List.{List, [], ◌∷◌}
 use lib.ListN.{length}
-use Rattle.answers.specs.declared.Answer.TheVariants.{Done}
-use Rattle.answers.specs.Answers.{is_done_of}
 use Rattle.answers.proofs.Laws.{done_is}
 use Rattle.transients.specs.Block.{judge_decays_of}
 use Rattle.control.specs.declared.State.{State}
@@ -22,6 +20,8 @@ use Rattle.filter.proofs.Demand3.{demand_3}
 use Rattle.run.specs.Run.{Ran, stopped, went, play_of, played_of, judge_run_of, left_of, run_of}
 use Rattle.songs.specs.Traces.{up_to_refusal, core_ran}
 use Rattle.run.proofs.Whole.{parts, block_valid}
+use Rattle.answers.specs.Answers.{done}
+use Rattle.std.specs.Prelude.{is_ok}
 
 -- the plain machine up to its first refusal is its trace up to there
 play_trace : (lent : Lent) (s : State) (es : List Event) → play_of lent s es ≡ up_to_refusal s (plain_trace lent s es)
@@ -29,9 +29,9 @@ unfolding play_of plain_trace up_to_refusal
 play_trace lent s [] = refl
 play_trace lent s (e ∷ es) =
     let p = plain_step lent s e in
-    ap (λ (r : Ran). cond (is_done_of p.answer) (went p r) (stopped p.answer s)) (play_trace lent p.state es)
+    ap (λ (r : Ran). cond (is_ok p.answer) (went p r) (stopped p.answer s)) (play_trace lent p.state es)
 
-module _ (lent : Lent) (s : State) (es : List Event) (ready : judge_lent_of lent ≡ Done) (decayed : judge_decays_of lent.decays ≡ Done) (valid : valid_of s ≡ true) where
+module _ (lent : Lent) (s : State) (es : List Event) (ready : judge_lent_of lent ≡ done) (decayed : judge_decays_of lent.decays ≡ done) (valid : valid_of s ≡ true) where
   -- the start is judged by its controls alone
   start_is : plain_start lent s ≡ judge_controls_of lent.bundle s
   unfolding plain_start
@@ -39,9 +39,9 @@ module _ (lent : Lent) (s : State) (es : List Event) (ready : judge_lent_of lent
 
   played_core : played_of lent s es ≡ core_ran lent s es
   unfolding played_of
-  played_core = rw start_is (go (is_done_of (judge_controls_of lent.bundle s)) refl)
+  played_core = rw start_is (go (is_ok (judge_controls_of lent.bundle s)) refl)
     where
-      go : (d : Bool) → is_done_of (judge_controls_of lent.bundle s) ≡ d
+      go : (d : Bool) → is_ok (judge_controls_of lent.bundle s) ≡ d
           → cond d (play_of lent s es) (stopped (judge_controls_of lent.bundle s) s)
           ≡ cond d (up_to_refusal s (shown_all es (core_trace lent (core_start_of lent s).core es))) (stopped (judge_controls_of lent.bundle s) s)
       go true h =
@@ -51,7 +51,7 @@ module _ (lent : Lent) (s : State) (es : List Event) (ready : judge_lent_of lent
 
 -- For every run that is not turned back: its samples, end state, counts and refusal are those of the core's calls, from the core of its block on, each given the core that the last one
 -- handed back, up to the first that is refused.
-pub run_is_core : (lent : Lent) (block script output : List ℕ) → judge_run_of lent block script (length output) ≡ Done
+pub run_is_core : (lent : Lent) (block script output : List ℕ) → judge_run_of lent block script (length output) ≡ done
     → run_of lent block script output ≡ left_of (core_ran lent (fields_of block) (events_of script)) output
 unfolding run_of
 run_is_core lent block script output judged =

@@ -1,7 +1,5 @@
 -- A song run in pieces: each piece is a script of its own and goes on from the block that the last one left, and after a stop no later piece is run.
-use Rattle.std.specs.Prelude.{ℕ, ◌+◌, ◌*◌, ◌≤◌, ◌≡◌, true, cond, List, [], ◌∷◌, ◌++◌, length, take}
-use Rattle.answers.specs.declared.Answer.{Answer}
-use Rattle.answers.specs.Answers.{is_done_of}
+use Rattle.std.specs.Prelude.{ℕ, ◌+◌, ◌*◌, ◌≤◌, ◌≡◌, true, cond, List, [], ◌∷◌, ◌++◌, length, take, is_ok}
 use Rattle.control.specs.declared.State.{State}
 use Rattle.control.specs.Block.{block_of}
 use Rattle.script.specs.declared.Event.{Event}
@@ -9,6 +7,7 @@ use Rattle.script.specs.Script.{well_formed, events_of, samples_of}
 use Rattle.filter.specs.Lent.{Lent}
 use Rattle.filter.specs.Plain.{plain_start}
 use Rattle.run.specs.Run.{Ran, stopped, play_of, sample_bytes, Run, run_of}
+use Rattle.answers.specs.Answers.{Answer}
 
 -- A piece: its script, and the output that is lent to its run.
 pub record Piece : Type 0 where
@@ -51,10 +50,10 @@ unfoldable pub pieces_of : Lent → List ℕ → Piece → List Piece → Told
 pieces_of lent block p [] = told (run_of lent block p.script p.output)
 pieces_of lent block p (q ∷ rest) =
     let r = run_of lent block p.script p.output in
-    cond (is_done_of r.answer) (join_told (told r) (pieces_of lent r.state q rest)) (told r)
+    cond (is_ok r.answer) (join_told (told r) (pieces_of lent r.state q rest)) (told r)
 
 -- The plain machine beside a run: a refused start is a stop before the first event.
 unfoldable pub plain_told : Lent → State → List Event → Told
 plain_told lent s es =
     let started = plain_start lent s in
-    told_ran (cond (is_done_of started) (play_of lent s es) (stopped started s))
+    told_ran (cond (is_ok started) (play_of lent s es) (stopped started s))

@@ -10,12 +10,10 @@ use lib.ListN.{length, take, drop, length-append}
 use lib.Seq.{drop-drop}
 use lib.Ieee.{binary32, to_bits}
 use borrow.Author.Tests.{ltb-true, ltb-false}
-use Rattle.answers.specs.declared.Answer.{Answer}
-use Rattle.answers.specs.declared.Answer.TheVariants.{Done, Sources}
+use Rattle.answers.specs.declared.Refusal.TheVariants.{Sources}
 use Rattle.wire.specs.Wire.{put_at, row_bytes}
 use Rattle.wire.proofs.Laws.{length-bytes_of, length-put_at, put_at_nil, put_at-join}
 use Rattle.integrator.specs.declared.IntegratorState.{IntegratorState}
-use Rattle.bundle.specs.declared.Read.{Read}
 use Rattle.transients.specs.declared.TransientState.{TransientState}
 use Rattle.signals.specs.declared.Voices.{Voices}
 use Rattle.signals.specs.Lent.{voices_of, valid_voices_of}
@@ -23,10 +21,12 @@ use Rattle.controls.specs.declared.ControlCache.{ControlCache}
 use Rattle.clock.specs.declared.Settings.{Settings}
 use Rattle.clock.specs.declared.TickOutputs.{TickOutputs}
 use Rattle.clock.specs.declared.Ticked.{Ticked}
-use Rattle.clock.specs.declared.Ticked.TheVariants.{Clocked, Refused}
 use Rattle.clock.specs.Clock.{tick_from_parts_of}
 use Rattle.tick_row.specs.declared.TickRow.{TickRow}
 use Rattle.tick_row.specs.TickRow.{voice_slices, tick_count_of, Ticks, no_ticks, one_tick, ticks_on, voiced_tick_of, ticks_of, ticks_end, tick_bytes, all_tick_bytes}
+use Rattle.answers.specs.Answers.{Answer, done}
+use Rattle.std.specs.Prelude.{Err, Result, Float, Ok}
+use Rattle.answers.specs.declared.Refusal.{Refusal}
 
 -- ---- the bytes
 
@@ -59,7 +59,7 @@ module _ (voices room : ℕ) where
 
 -- ---- the row
 
-module _ (curves : List ℕ) (c : ControlCache) (rest : Read) (s : Settings) where
+module _ (curves : List ℕ) (c : ControlCache) (rest : Result Float Refusal) (s : Settings) where
   abbrev ticks : IntegratorState → TransientState → List (List ℕ) → Ticks
   ticks i t vs = ticks_of curves c rest s i t vs
 
@@ -68,10 +68,10 @@ module _ (curves : List ℕ) (c : ControlCache) (rest : Read) (s : Settings) whe
   outputs_few zero i t b = omega arith
   outputs_few (suc n) i t b = go (voiced_tick_of curves c rest s i t (take 36 b)) (λ (j : IntegratorState) (u : TransientState). outputs_few n j u (drop 36 b))
     where
-      go : (x : Ticked) → ((j : IntegratorState) (u : TransientState) → length (ticks_of curves c rest s j u (voice_slices n (drop 36 b))).outputs ≤ n)
+      go : (x : Result Ticked Refusal) → ((j : IntegratorState) (u : TransientState) → length (ticks_of curves c rest s j u (voice_slices n (drop 36 b))).outputs ≤ n)
           → length (ticks_on (λ j u. ticks_of curves c rest s j u (voice_slices n (drop 36 b))) i t x).outputs ≤ suc n
-      go (Clocked o j u) later = omega (arith, later j u)
-      go (Refused answer) later = omega arith
+      go (Ok (record { outputs = o; integrator = j; transients = u })) later = omega (arith, later j u)
+      go (Err answer) later = omega arith
 
   module _ (voices : List ℕ) (count : ℕ) (out₀ : List ℕ) (from : IntegratorState) (held : TransientState) where
     -- what is left before tick k
@@ -102,11 +102,11 @@ module _ (curves : List ℕ) (c : ControlCache) (rest : Read) (s : Settings) whe
       )
 
       pub row_end : count ≤ k
-          → (◌≡◌ {A = TickRow} (record { answer = Done; ticks = k; integrator = j; transients = u }) (ticks_end 0 whole)) × (out ≡ put_at out₀ 0 (all_tick_bytes whole.outputs))
+          → (◌≡◌ {A = TickRow} (record { answer = done; ticks = k; integrator = j; transients = u }) (ticks_end 0 whole)) × (out ≡ put_at out₀ 0 (all_tick_bytes whole.outputs))
       unfolding ticks_of voice_slices
-      row_end h = let z : count - k ≡ 0 = omega arith in stops Done (rw z refl)
+      row_end h = let z : count - k ≡ 0 = omega arith in stops done (rw z refl)
 
-      module _ (more : k < count) {part : List ℕ} (part_is : part ≡ take 36 (drop (36 * k) voices)) {x : Ticked} (x_is : x ≡ voiced_tick_of curves c rest s j u part) where
+      module _ (more : k < count) {part : List ℕ} (part_is : part ≡ take 36 (drop (36 * k) voices)) {x : Result Ticked Refusal} (x_is : x ≡ voiced_tick_of curves c rest s j u part) where
         next : left k ≡ part ∷ left (k + 1)
         unfolding voice_slices
         next =
@@ -118,11 +118,11 @@ module _ (curves : List ℕ) (c : ControlCache) (rest : Read) (s : Settings) whe
         unfolding ticks_of
         row_is = ap (ticks j u) next ∙ rw x_is refl
 
-        pub row_refused : (answer : Answer) → x ≡ Refused answer
+        pub row_refused : (answer : Answer) → x ≡ Err answer
             → (◌≡◌ {A = TickRow} (record { answer = answer; ticks = k; integrator = j; transients = u }) (ticks_end 0 whole)) × (out ≡ put_at out₀ 0 (all_tick_bytes whole.outputs))
         row_refused answer h = stops answer (row_is ∙ rw h refl)
 
-        pub row_taken : (o : TickOutputs) (i : IntegratorState) (t : TransientState) → x ≡ Clocked o i t → Sofar (put_at out (16 * k) (tick_bytes o)) i t (k + 1)
+        pub row_taken : (o : TickOutputs) (i : IntegratorState) (t : TransientState) → x ≡ Ok (record { outputs = o; integrator = i; transients = t }) → Sofar (put_at out (16 * k) (tick_bytes o)) i t (k + 1)
         unfolding all_tick_bytes
         row_taken o i t h =
             let later = ticks i t (left (k + 1)) in
@@ -146,11 +146,11 @@ module _ (curves : List ℕ) (c : ControlCache) (rest : Read) (s : Settings) whe
 
 -- ---- one tick of it
 
-module _ (curves : List ℕ) (c : ControlCache) (rest : Read) (s : Settings) (i : IntegratorState) (t : TransientState) (v : List ℕ) {b : Bool} (b_is : b ≡ valid_voices_of v) where
-  pub voiced_on : b ≡ true → {w : Voices} → w ≡ voices_of v → {x : Ticked} → x ≡ tick_from_parts_of curves c rest s i t w → x ≡ voiced_tick_of curves c rest s i t v
+module _ (curves : List ℕ) (c : ControlCache) (rest : Result Float Refusal) (s : Settings) (i : IntegratorState) (t : TransientState) (v : List ℕ) {b : Bool} (b_is : b ≡ valid_voices_of v) where
+  pub voiced_on : b ≡ true → {w : Voices} → w ≡ voices_of v → {x : Result Ticked Refusal} → x ≡ tick_from_parts_of curves c rest s i t w → x ≡ voiced_tick_of curves c rest s i t v
   unfolding voiced_tick_of
   voiced_on h w_is x_is = rw (← b_is, h, ← w_is) x_is
 
-  pub voiced_off : b ≡ false → Refused Sources ≡ voiced_tick_of curves c rest s i t v
+  pub voiced_off : b ≡ false → Err Sources ≡ voiced_tick_of curves c rest s i t v
   unfolding voiced_tick_of
   voiced_off h = rw (← b_is, h) refl

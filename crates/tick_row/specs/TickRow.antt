@@ -1,21 +1,20 @@
 -- Ticks in a row, between which only integrator and transients move: each takes the next 36 bytes of a row of voices.
-use Rattle.std.specs.Prelude.{ℕ, zero, suc, ◌+◌, ◌/◌, cond, List, [], ◌∷◌, ◌++◌, ltb, length, take, drop}
+use Rattle.std.specs.Prelude.{ℕ, zero, suc, ◌+◌, ◌/◌, cond, List, [], ◌∷◌, ◌++◌, ltb, length, take, drop, Err, Result, Float, Ok}
 use Rattle.std.specs.Float.{binary32}
 use Rattle.std.specs.Float.Ieee.{to_bits}
-use Rattle.answers.specs.declared.Answer.{Answer}
-use Rattle.answers.specs.declared.Answer.TheVariants.{Done, Sources}
+use Rattle.answers.specs.declared.Refusal.TheVariants.{Sources}
 use Rattle.wire.specs.Wire.{row_bytes}
 use Rattle.integrator.specs.declared.IntegratorState.{IntegratorState}
-use Rattle.bundle.specs.declared.Read.{Read}
 use Rattle.transients.specs.declared.TransientState.{TransientState}
 use Rattle.signals.specs.Lent.{voices_of, valid_voices_of}
 use Rattle.controls.specs.declared.ControlCache.{ControlCache}
 use Rattle.clock.specs.declared.Settings.{Settings}
 use Rattle.clock.specs.declared.TickOutputs.{TickOutputs}
 use Rattle.clock.specs.declared.Ticked.{Ticked}
-use Rattle.clock.specs.declared.Ticked.TheVariants.{Clocked, Refused}
 use Rattle.clock.specs.Clock.{tick_from_parts_of}
 use Rattle.tick_row.specs.declared.TickRow.{TickRow}
+use Rattle.answers.specs.Answers.{Answer, done}
+use Rattle.answers.specs.declared.Refusal.{Refusal}
 
 -- ---- the voices of each tick
 
@@ -44,17 +43,17 @@ abbrev pub one_tick : TickOutputs → Ticks → Ticks
 one_tick o r = record { answer = r.answer; outputs = o ∷ r.outputs; integrator = r.integrator; transients = r.transients }
 
 -- a tick, and what comes after it
-abbrev pub ticks_on : (IntegratorState → TransientState → Ticks) → IntegratorState → TransientState → Ticked → Ticks
-ticks_on later i t (Clocked o j u) = one_tick o (later j u)
-ticks_on later i t (Refused answer) = no_ticks answer i t
+abbrev pub ticks_on : (IntegratorState → TransientState → Ticks) → IntegratorState → TransientState → Result Ticked Refusal → Ticks
+ticks_on later i t (Ok (record { outputs = o; integrator = j; transients = u })) = one_tick o (later j u)
+ticks_on later i t (Err answer) = no_ticks answer i t
 
-module _ (curves : List ℕ) (c : ControlCache) (rest : Read) (s : Settings) where
+module _ (curves : List ℕ) (c : ControlCache) (rest : Result Float Refusal) (s : Settings) where
   -- 11 of its voices, then the tick
-  unfoldable pub voiced_tick_of : IntegratorState → TransientState → List ℕ → Ticked
-  voiced_tick_of i t v = cond (valid_voices_of v) (tick_from_parts_of curves c rest s i t (voices_of v)) (Refused Sources)
+  unfoldable pub voiced_tick_of : IntegratorState → TransientState → List ℕ → Result Ticked Refusal
+  voiced_tick_of i t v = cond (valid_voices_of v) (tick_from_parts_of curves c rest s i t (voices_of v)) (Err Sources)
 
   unfoldable pub ticks_of : IntegratorState → TransientState → List (List ℕ) → Ticks
-  ticks_of i t [] = no_ticks Done i t
+  ticks_of i t [] = no_ticks done i t
   ticks_of i t (v ∷ vs) = ticks_on (λ j u. ticks_of j u vs) i t (voiced_tick_of i t v)
 
   -- as many as there is room for

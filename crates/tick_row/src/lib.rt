@@ -53,7 +53,7 @@ fn voiced_tick(
     feedback_drives: &[f32; 16],
     core: CoreControls,
     mode_output_gain: f32,
-    rest: Read,
+    rest: Result<f32, Refusal>,
     settings: Settings,
     integrator: IntegratorState,
     earlier: IntegratorState,
@@ -81,7 +81,7 @@ fn voiced_tick(
         );
     }
     Ticked::Refused {
-        answer: Answer::Sources,
+        answer: Err(Refusal::Sources),
     }
 }
 
@@ -94,7 +94,7 @@ pub fn play_ticks(
     feedback_drives: &[f32; 16],
     core: CoreControls,
     mode_output_gain: f32,
-    rest: Read,
+    rest: Result<f32, Refusal>,
     settings: Settings,
     from: IntegratorState,
     held: TransientState,
@@ -153,7 +153,7 @@ pub fn play_ticks(
         }
     }
     TickRow {
-        answer: Answer::Done,
+        answer: Ok(()),
         ticks: i,
         integrator,
         transients,

@@ -1,17 +1,17 @@
 -- `mixer_transfer` and `volume_transfer` of filter.rs, operation by operation, and the entries that each reads.
 -- Of the 31 curves the mixer's are 7 to 14 and the volume's 15 to 30.
-use Rattle.std.specs.Prelude.{ℕ, ◌+◌, min, cond, List, eqb, leb, Float}
-use Rattle.answers.specs.declared.Answer.{Answer}
-use Rattle.answers.specs.declared.Answer.TheVariants.{Argument}
+use Rattle.std.specs.Prelude.{ℕ, ◌+◌, min, cond, List, eqb, leb, Float, Err, Result}
+use Rattle.answers.specs.declared.Refusal.TheVariants.{Argument}
 use Rattle.answers.specs.declared.Buffer.TheVariants.{Curves}
 use Rattle.floats.specs.Arithmetic.{◌⊗◌, f32}
 use Rattle.response.specs.Levels.{filter_mode_quiescent_level_of}
 use Rattle.mixing.specs.declared.MixingTopology.{MixingTopology}
-use Rattle.bundle.specs.declared.Read.{Read}
 use Rattle.bundle.specs.Opening.{judge_places_of}
 use Rattle.bundle.specs.Reading.{read_of}
 use Rattle.curves.specs.declared.CurvePoint.{CurvePoint}
 use Rattle.curves.specs.Sampling.{sample_curve_of, sample_curve_places_of, curve_point_of, no_point}
+use Rattle.answers.specs.Answers.{Answer}
+use Rattle.answers.specs.declared.Refusal.{Refusal}
 
 -- ---- `mixer_transfer`
 
@@ -36,7 +36,7 @@ unfoldable pub judge_mixer_of : List ℕ → ℕ → MixingTopology → Float �
 judge_mixer_of curves slot t sum = cond (leb t.mixer_input_count 7) (judge_places_of Curves curves (sample_curve_places_of slot (mixer_average_of t sum))) Argument
 
 -- The output, or the first refusal of these.
-unfoldable pub read_mixer_of : List ℕ → ℕ → MixingTopology → Float → Read
+unfoldable pub read_mixer_of : List ℕ → ℕ → MixingTopology → Float → Result Float Refusal
 read_mixer_of curves slot t sum = read_of (judge_mixer_of curves slot t sum) (mixer_transfer_of curves slot t sum)
 
 -- ---- `volume_transfer`
@@ -54,5 +54,5 @@ volume_point_of curves slot value = curve_point_of curves slot value
 unfoldable pub judge_volume_of : List ℕ → ℕ → Float → Answer
 judge_volume_of curves slot value = judge_places_of Curves curves (sample_curve_places_of slot value)
 
-unfoldable pub read_volume_of : List ℕ → ℕ → Float → Read
+unfoldable pub read_volume_of : List ℕ → ℕ → Float → Result Float Refusal
 read_volume_of curves slot value = read_of (judge_volume_of curves slot value) (volume_transfer_of curves slot value)

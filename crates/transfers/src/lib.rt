@@ -51,20 +51,20 @@ pub fn judge_mixer(curves: &[u8], slot: u8, topology: MixingTopology, input_sum:
     ensures { result ≡ T.judge_mixer_of curves.now slot topology input_sum }
 {
     if 7 < topology.mixer_input_count {
-        return Answer::Argument;
+        return Err(Refusal::Argument);
     }
     curves::judge_sample_curve(curves, slot, mixer_average(topology, input_sum))
 }
 
 // The output, each entry judged as it is read.
-pub fn read_mixer(curves: &[u8], slot: u8, topology: MixingTopology, input_sum: f32) -> Read
+pub fn read_mixer(curves: &[u8], slot: u8, topology: MixingTopology, input_sum: f32) -> Result<f32, Refusal>
     ensures { result ≡ T.read_mixer_of curves.now slot topology input_sum }
 {
     let count = topology.mixer_input_count;
     if count <= 7 {
         return curves::read_curve(curves, slot, mixer_average(topology, input_sum));
     }
-    Read::Refused(Answer::Argument)
+    Err(Refusal::Argument)
 }
 
 // ---- volume_transfer
@@ -98,7 +98,7 @@ pub fn judge_volume(curves: &[u8], slot: u8, value: f32) -> Answer
 }
 
 // The output, each entry judged as it is read.
-pub fn read_volume(curves: &[u8], slot: u8, value: f32) -> Read
+pub fn read_volume(curves: &[u8], slot: u8, value: f32) -> Result<f32, Refusal>
     ensures { result ≡ T.read_volume_of curves.now slot value }
 {
     curves::read_curve(curves, slot, value)

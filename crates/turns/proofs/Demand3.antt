@@ -4,9 +4,8 @@ use Prim.Native.Nat.{ℕ}
 use mathlib.Core.Path.{◌≡◌, refl, sym, ap, ◌∙◌, subst}
 use mathlib.Core.Bool.{Bool, true, false, not, cond, true≢false}
 use mathlib.Core.List.{List, [], ◌∷◌}
-use Rattle.answers.specs.declared.Answer.{Answer}
-use Rattle.answers.specs.declared.Answer.TheVariants.{Done, Argument}
-use Rattle.answers.specs.Answers.{is_done_of, unless_of}
+use Rattle.answers.specs.declared.Refusal.TheVariants.{Argument}
+use Rattle.answers.specs.Answers.{unless_of, Answer, done}
 use Rattle.answers.proofs.Laws.{first_done, first_of_done, unless_done}
 use Rattle.integrator.specs.declared.IntegratorState.{IntegratorState}
 use Rattle.transients.specs.declared.TransientState.{TransientState}
@@ -20,7 +19,6 @@ use Rattle.control.proofs.Valid.{valid_ranges, four}
 use Rattle.controls.specs.Controls.{controls_of}
 use Rattle.controls.specs.Judging.{judge_entries_of, judge_domain_of, judge_controls_of}
 use Rattle.clock.specs.declared.Ticked.{Ticked}
-use Rattle.clock.specs.declared.Ticked.TheVariants.{Clocked, Refused}
 use Rattle.filter.specs.declared.Core.{Core}
 use Rattle.filter.specs.Lent.{Lent, judge_lent_of}
 use Rattle.filter.specs.Core.{fresh_topology_of, core_of}
@@ -30,10 +28,12 @@ use Rattle.turns.specs.Turns.{judge_levels_of, judge_voices_of, turn_start, turn
 use Rattle.turns.specs.Machine.{Turn, event, tick, PlainTurn, event_turn, plain_clocked, plain_tick, plain_turn, plain_turns}
 use Rattle.turns.specs.Lists.{TurnFed, tick_turn, turn_of, core_turns, shown_turn, shown_turns, AllTurnsFresh}
 use Rattle.turns.proofs.Good.{good_tick, clock_good}
+use Rattle.std.specs.Prelude.{Err, is_ok, Result, Ok}
+use Rattle.answers.specs.declared.Refusal.{Refusal}
 
 -- ---- a tick: the registers stay, so all that is kept stays
 
-module _ (l : Lent) (levels : List ℕ) (s : State) (valid : valid_of s ≡ true) (judged : judge_controls_of l.bundle s ≡ Done) where
+module _ (l : Lent) (levels : List ℕ) (s : State) (valid : valid_of s ≡ true) (judged : judge_controls_of l.bundle s ≡ done) where
   after_valid : (i : IntegratorState) (t : TransientState) → finite_floats_of i ≡ true → finite_transients_of t ≡ true → valid_of (after_state s i t) ≡ true
   unfolding valid_of
   after_valid i t f g = rw ((four true (valid_registers_of s.registers) (finite_floats_of s.integrator) (finite_transients_of s.transients) valid).1, f) g
@@ -46,33 +46,33 @@ module _ (l : Lent) (levels : List ℕ) (s : State) (valid : valid_of s ≡ true
   abbrev Ticks : TickFed → PlainTurn → Type 0
   Ticks r p = (shown_turn (tick_turn r) ≡ p) × Invariant l r.core
 
-  ticked_plain : (x : Ticked) → good_tick x ≡ true → Ticks (ticked_of (core_of l s) x) (plain_clocked s x)
+  ticked_plain : (x : Result Ticked Refusal) → good_tick x ≡ true → Ticks (ticked_of (core_of l s) x) (plain_clocked s x)
   unfolding good_tick
-  ticked_plain (Clocked o i t) g =
+  ticked_plain (Ok (record { outputs = o; integrator = i; transients = t })) g =
       let p = both (finite_floats_of i) (finite_transients_of t) g in
       (refl, after_tick i t p.0 p.1)
-  ticked_plain (Refused a) g = go (is_done_of a) refl g
+  ticked_plain (Err a) g = go (is_ok a) refl g
     where
-      go : (d : Bool) → is_done_of a ≡ d → not d ≡ true → Ticks (ticked_of (core_of l s) (Refused a)) (plain_clocked s (Refused a))
+      go : (d : Bool) → is_ok a ≡ d → not d ≡ true → Ticks (ticked_of (core_of l s) (Err a)) (plain_clocked s (Err a))
       go true h n = absurd (true≢false (sym n))
       go false h n = rw h (refl, fresh_invariant l s valid judged)
 
   -- what a bad voice refuses, on either side
-  guarded_plain : (v : Answer) (d : Bool) → is_done_of v ≡ d → (x : Ticked) → good_tick x ≡ true
-      → Ticks (cond (is_done_of v) (ticked_of (core_of l s) x) (unticked_of v (core_of l s))) (cond (is_done_of v) (plain_clocked s x) (record { answer = v; rows = []; state = s }))
+  guarded_plain : (v : Answer) (d : Bool) → is_ok v ≡ d → (x : Result Ticked Refusal) → good_tick x ≡ true
+      → Ticks (cond (is_ok v) (ticked_of (core_of l s) x) (unticked_of v (core_of l s))) (cond (is_ok v) (plain_clocked s x) (record { answer = v; rows = []; state = s }))
   guarded_plain v true h x g = rw h (ticked_plain x g)
   guarded_plain v false h x g = rw (h, h) (refl, fresh_invariant l s valid judged)
 
-  tick_steps : judge_lent_of l ≡ Done → judge_decays_of l.decays ≡ Done → judge_levels_of levels ≡ Done → (voices : List ℕ)
+  tick_steps : judge_lent_of l ≡ done → judge_decays_of l.decays ≡ done → judge_levels_of levels ≡ done → (voices : List ℕ)
       → Ticks (core_tick_of l levels (core_of l s) voices) (plain_tick l levels s voices)
   unfolding core_tick_of plain_tick take_tick_of controls_of
   tick_steps ready decayed levelled voices =
       rw (ready, core_judged l s valid judged, decayed, levelled, judged, first_of_done (judge_voices_of voices))
-      (guarded_plain (judge_voices_of voices) (is_done_of (judge_voices_of voices)) refl _ (clock_good l.bundle l.curves _ _ s.integrator s.transients (voices_of voices) (valid_ranges s valid).floats))
+      (guarded_plain (judge_voices_of voices) (is_ok (judge_voices_of voices)) refl _ (clock_good l.bundle l.curves _ _ s.integrator s.transients (voices_of voices) (valid_ranges s valid).floats))
 
 -- ---- any turn
 
-module _ (l : Lent) (levels : List ℕ) (ready : judge_lent_of l ≡ Done) (decayed : judge_decays_of l.decays ≡ Done) (levelled : judge_levels_of levels ≡ Done) where
+module _ (l : Lent) (levels : List ℕ) (ready : judge_lent_of l ≡ done) (decayed : judge_decays_of l.decays ≡ done) (levelled : judge_levels_of levels ≡ done) where
   abbrev TurnSteps : Core → Turn → TurnFed → Type 0
   TurnSteps k x r = (shown_turn r ≡ plain_turn l levels k.state x) × Invariant l r.core
 
@@ -101,13 +101,13 @@ module _ (l : Lent) (levels : List ℕ) (ready : judge_lent_of l ≡ Done) (deca
 
 -- ---- the start
 
-module _ (l : Lent) (levels : List ℕ) (s : State) (started : turn_start l levels s ≡ Done) where
+module _ (l : Lent) (levels : List ℕ) (s : State) (started : turn_start l levels s ≡ done) where
   pub record TurnStarts : Type 0 where
-    pub ready : judge_lent_of l ≡ Done
+    pub ready : judge_lent_of l ≡ done
     pub valid : valid_of s ≡ true
-    pub decayed : judge_decays_of l.decays ≡ Done
-    pub levelled : judge_levels_of levels ≡ Done
-    pub judged : judge_controls_of l.bundle s ≡ Done
+    pub decayed : judge_decays_of l.decays ≡ done
+    pub levelled : judge_levels_of levels ≡ done
+    pub judged : judge_controls_of l.bundle s ≡ done
 
   pub turn_start_parts : TurnStarts
   unfolding turn_start
@@ -131,8 +131,8 @@ module _ (l : Lent) (levels : List ℕ) (s : State) (started : turn_start l leve
 -- not refused, every sample, tick, state and refusal of the list is the plain machine's, and after each all that is kept equals what is worked out afresh from the state.
 pub record Demand3Turns (l : Lent) (levels : List ℕ) (s : State) (xs : List Turn) : Type 0 where
   pub start : (turn_start_of l levels s).answer ≡ turn_start l levels s
-  pub same : turn_start l levels s ≡ Done → shown_turns (core_turns l levels (turn_start_of l levels s).core xs) ≡ plain_turns l levels s xs
-  pub fresh : turn_start l levels s ≡ Done → AllTurnsFresh l (core_turns l levels (turn_start_of l levels s).core xs)
+  pub same : turn_start l levels s ≡ done → shown_turns (core_turns l levels (turn_start_of l levels s).core xs) ≡ plain_turns l levels s xs
+  pub fresh : turn_start l levels s ≡ done → AllTurnsFresh l (core_turns l levels (turn_start_of l levels s).core xs)
 
 pub demand_3_turns : (l : Lent) (levels : List ℕ) (s : State) (xs : List Turn) → Demand3Turns l levels s xs
 demand_3_turns l levels s xs = record { start = refl; same = λ h. (turn_start_agrees l levels s h xs).same; fresh = λ h. (turn_start_agrees l levels s h xs).fresh }

@@ -5,12 +5,8 @@ use mathlib.Core.Bool.{Bool, true, false, not, ◌&&◌, cond}
 use mathlib.Core.List.{List}
 use lib.Ieee.{Float}
 use lib.Ieee.Scale.{finite}
-use Rattle.answers.specs.declared.Answer.{Answer}
-use Rattle.answers.specs.declared.Answer.TheVariants.{Domain}
-use Rattle.answers.specs.Answers.{is_done_of}
+use Rattle.answers.specs.declared.Refusal.TheVariants.{Domain}
 use Rattle.integrator.specs.declared.IntegratorState.{IntegratorState}
-use Rattle.bundle.specs.declared.Read.{Read}
-use Rattle.bundle.specs.declared.Read.TheVariants.{Value, Refused as Unread}
 use Rattle.bundle.specs.Reading.{read_of}
 use Rattle.transients.specs.declared.TransientState.{TransientState}
 use Rattle.transients.specs.Transients.{finite_transients_of}
@@ -21,29 +17,30 @@ use Rattle.control.specs.Block.{finite_floats_of}
 use Rattle.controls.specs.declared.ControlCache.{ControlCache}
 use Rattle.transfers.specs.Transfers.{read_mixer_of, read_volume_of}
 use Rattle.sample.specs.declared.Sampled.{Sampled}
-use Rattle.sample.specs.declared.Sampled.TheVariants.{Taken, Refused as Untaken}
 use Rattle.sample.proofs.Valid.{finite_taken, sample_valid}
 use Rattle.frozen.specs.Frozen.{configured_of}
 use Rattle.clock.specs.declared.Settings.{Settings}
 use Rattle.clock.specs.declared.TickOutputs.{TickOutputs}
 use Rattle.clock.specs.declared.Ticked.{Ticked}
-use Rattle.clock.specs.declared.Ticked.TheVariants.{Clocked, Refused}
 use Rattle.activity.specs.Activity.{bypass_output_gain_of}
 use Rattle.clock.specs.Transients.{combined_activity_of, node_charge_of, decayed_of}
 use Rattle.clock.specs.Clock.{tracked_of, tick_signals_of, volume_stage_of, common_mode_displacement_of, stage_argument_of, charged_of, clocked_of, levelled_of, mixed_tick_of, after_core_of, tick_of, finite_after_of, clock_of}
 use Rattle.filter.proofs.Demand3.{refuses, sample_refuses}
+use Rattle.answers.specs.Answers.{Answer}
+use Rattle.std.specs.Prelude.{Err, is_ok, Result, Float, Ok}
+use Rattle.answers.specs.declared.Refusal.{Refusal}
 
 -- ---- a reading that is refused has a refusal
 
-unfoldable pub refuses_read : Read → Bool
-refuses_read (Value x) = true
-refuses_read (Unread answer) = not (is_done_of answer)
+unfoldable pub refuses_read : Result Float Refusal → Bool
+refuses_read (Ok x) = true
+refuses_read (Err answer) = not (is_ok answer)
 
 read_refuses : (judged : Answer) (x : Float) → refuses_read (read_of judged x) ≡ true
 unfolding read_of refuses_read
-read_refuses judged x = go (is_done_of judged) refl
+read_refuses judged x = go (is_ok judged) refl
   where
-    go : (d : Bool) → is_done_of judged ≡ d → refuses_read (cond d (Value x) (Unread judged)) ≡ true
+    go : (d : Bool) → is_ok judged ≡ d → refuses_read (cond d (Ok x) (Err judged)) ≡ true
     go true h = refl
     go false h = rw h refl
 
@@ -51,11 +48,11 @@ mixer_refuses : (curves : List ℕ) (slot : ℕ) (t : _) (sum : Float) → refus
 unfolding read_mixer_of
 mixer_refuses curves slot t sum = read_refuses _ _
 
-either_refuses : (b : Bool) (x y : Read) → refuses_read x ≡ true → refuses_read y ≡ true → refuses_read (cond b x y) ≡ true
+either_refuses : (b : Bool) (x y : Result Float Refusal) → refuses_read x ≡ true → refuses_read y ≡ true → refuses_read (cond b x y) ≡ true
 either_refuses true x y h i = h
 either_refuses false x y h i = i
 
-value_refuses : (x : Float) → refuses_read (Value x) ≡ true
+value_refuses : (x : Float) → refuses_read (Ok x) ≡ true
 unfolding refuses_read
 value_refuses x = refl
 
@@ -65,20 +62,20 @@ volume_refuses curves s voices mixer = either_refuses (configured_of s.output.fr
 
 -- ---- the tick before its state is judged: a finite integrator, or a refusal
 
-unfoldable pub fair_tick : Ticked → Bool
-fair_tick (Clocked outputs i t) = finite_floats_of i
-fair_tick (Refused answer) = not (is_done_of answer)
+unfoldable pub fair_tick : Result Ticked Refusal → Bool
+fair_tick (Ok (record { outputs = outputs; integrator = i; transients = t })) = finite_floats_of i
+fair_tick (Err answer) = not (is_ok answer)
 
-clocked_or_domain : (b : Bool) (o : TickOutputs) (i : IntegratorState) (t : TransientState) → finite_floats_of i ≡ true → fair_tick (cond b (Clocked o i t) (Refused Domain)) ≡ true
+clocked_or_domain : (b : Bool) (o : TickOutputs) (i : IntegratorState) (t : TransientState) → finite_floats_of i ≡ true → fair_tick (cond b (Ok (record { outputs = o; integrator = i; transients = t })) (Err Domain)) ≡ true
 unfolding fair_tick
 clocked_or_domain true o i t h = h
 clocked_or_domain false o i t h = refl
 
-refused_fair : (answer : Answer) → not (is_done_of answer) ≡ true → fair_tick (Refused answer) ≡ true
+refused_fair : (answer : Answer) → not (is_ok answer) ≡ true → fair_tick (Err answer) ≡ true
 unfolding fair_tick
 refused_fair answer r = r
 
-unread_fair : (answer : Answer) → refuses_read (Unread answer) ≡ true → fair_tick (Refused answer) ≡ true
+unread_fair : (answer : Answer) → refuses_read (Err answer) ≡ true → fair_tick (Err answer) ≡ true
 unfolding refuses_read
 unread_fair answer r = refused_fair answer r
 
@@ -92,27 +89,27 @@ module _ (curves : List ℕ) (s : Settings) (voices : Voices) (signals : RoutedS
       let charge = node_charge_of held in
       clocked_or_domain (finite stage && finite charge && finite mixer) (record { stage = stage; charge = charge; mixer = mixer; filter = filter }) i (decayed_of held s.factors) h
 
-  levelled_fair : (i : IntegratorState) (filter mixer : Float) (level : Read) → finite_floats_of i ≡ true → refuses_read level ≡ true → fair_tick (levelled_of s voices signals t i filter mixer level) ≡ true
+  levelled_fair : (i : IntegratorState) (filter mixer : Float) (level : Result Float Refusal) → finite_floats_of i ≡ true → refuses_read level ≡ true → fair_tick (levelled_of s voices signals t i filter mixer level) ≡ true
   unfolding levelled_of
-  levelled_fair i filter mixer (Value x) h r = clocked_fair i filter mixer x h
-  levelled_fair i filter mixer (Unread a) h r = unread_fair a r
+  levelled_fair i filter mixer (Ok x) h r = clocked_fair i filter mixer x h
+  levelled_fair i filter mixer (Err a) h r = unread_fair a r
 
-  mixed_fair : (i : IntegratorState) (filter : Float) (raw : Read) → finite_floats_of i ≡ true → refuses_read raw ≡ true → fair_tick (mixed_tick_of curves s voices signals t i filter raw) ≡ true
+  mixed_fair : (i : IntegratorState) (filter : Float) (raw : Result Float Refusal) → finite_floats_of i ≡ true → refuses_read raw ≡ true → fair_tick (mixed_tick_of curves s voices signals t i filter raw) ≡ true
   unfolding mixed_tick_of
-  mixed_fair i filter (Value x) h r = levelled_fair i filter _ _ h (volume_refuses curves s voices _)
-  mixed_fair i filter (Unread a) h r = unread_fair a r
+  mixed_fair i filter (Ok x) h r = levelled_fair i filter _ _ h (volume_refuses curves s voices _)
+  mixed_fair i filter (Err a) h r = unread_fair a r
 
-  core_fair : (x : Sampled) → refuses x ≡ true → finite_taken x ≡ true → fair_tick (after_core_of curves s voices signals t x) ≡ true
+  core_fair : (x : Result Sampled Refusal) → refuses x ≡ true → finite_taken x ≡ true → fair_tick (after_core_of curves s voices signals t x) ≡ true
   unfolding after_core_of refuses finite_taken
-  core_fair (Taken o i) r f = mixed_fair i o.selected _ f (mixer_refuses curves _ _ _)
-  core_fair (Untaken a) r f = refused_fair a r
+  core_fair (Ok (record { outputs = o; state = i })) r f = mixed_fair i o.selected _ f (mixer_refuses curves _ _ _)
+  core_fair (Err a) r f = refused_fair a r
 
-fair_or_domain : (b : Bool) (x : Ticked) → fair_tick x ≡ true → fair_tick (cond b x (Refused Domain)) ≡ true
+fair_or_domain : (b : Bool) (x : Result Ticked Refusal) → fair_tick x ≡ true → fair_tick (cond b x (Err Domain)) ≡ true
 unfolding fair_tick
 fair_or_domain true x h = h
 fair_or_domain false x h = refl
 
-tick_fair : (curves : List ℕ) (core : Float → Float → Sampled) (s : Settings) (t : TransientState) (voices : Voices)
+tick_fair : (curves : List ℕ) (core : Float → Float → Result Sampled Refusal) (s : Settings) (t : TransientState) (voices : Voices)
     → ((sum energy : Float) → refuses (core sum energy) ≡ true) → ((sum energy : Float) → finite_taken (core sum energy) ≡ true) → fair_tick (tick_of curves core s t voices) ≡ true
 unfolding tick_of
 tick_fair curves core s t voices r f =
@@ -123,18 +120,18 @@ tick_fair curves core s t voices r f =
 
 -- ---- the whole tick
 
-unfoldable pub good_tick : Ticked → Bool
-good_tick (Clocked outputs i t) = finite_floats_of i && finite_transients_of t
-good_tick (Refused answer) = not (is_done_of answer)
+unfoldable pub good_tick : Result Ticked Refusal → Bool
+good_tick (Ok (record { outputs = outputs; integrator = i; transients = t })) = finite_floats_of i && finite_transients_of t
+good_tick (Err answer) = not (is_ok answer)
 
-after_good : (x : Ticked) → fair_tick x ≡ true → good_tick (finite_after_of x) ≡ true
+after_good : (x : Result Ticked Refusal) → fair_tick x ≡ true → good_tick (finite_after_of x) ≡ true
 unfolding fair_tick good_tick
-after_good (Clocked o i t) h = go (finite_transients_of t) refl
+after_good (Ok (record { outputs = o; integrator = i; transients = t })) h = go (finite_transients_of t) refl
   where
-    go : (b : Bool) → finite_transients_of t ≡ b → good_tick (cond b (Clocked o i t) (Refused Domain)) ≡ true
+    go : (b : Bool) → finite_transients_of t ≡ b → good_tick (cond b (Ok (record { outputs = o; integrator = i; transients = t })) (Err Domain)) ≡ true
     go true e = rw (h, e) refl
     go false e = refl
-after_good (Refused a) h = h
+after_good (Err a) h = h
 
 pub clock_good : (bundle curves : List ℕ) (c : ControlCache) (s : Settings) (i : IntegratorState) (t : TransientState) (voices : Voices) → finite_floats_of i ≡ true
     → good_tick (clock_of bundle curves c s i t voices) ≡ true

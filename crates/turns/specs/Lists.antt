@@ -1,7 +1,5 @@
 -- A list of turns through the core's calls, each given the core that the last one handed back.
-use Rattle.std.specs.Prelude.{ℕ, cond, List, [], ◌∷◌}
-use Rattle.answers.specs.declared.Answer.{Answer}
-use Rattle.answers.specs.Answers.{is_done_of}
+use Rattle.std.specs.Prelude.{ℕ, cond, List, [], ◌∷◌, is_ok}
 use Rattle.filter.specs.declared.Core.{Core}
 use Rattle.filter.specs.Lent.{Lent}
 use Rattle.filter.specs.Core.{feed_of}
@@ -9,6 +7,7 @@ use Rattle.filter.specs.Lists.{shown, Fresh}
 use Rattle.turns.specs.declared.TickFed.{TickFed}
 use Rattle.turns.specs.Turns.{core_tick_of}
 use Rattle.turns.specs.Machine.{Turn, event, tick, Row, clocked, PlainTurn, sampled_all}
+use Rattle.answers.specs.Answers.{Answer}
 
 -- What a call answers: the four numbers of a sample or a tick that was taken, and the next core.
 pub record TurnFed : Type 0 where
@@ -17,7 +16,7 @@ pub record TurnFed : Type 0 where
   pub core : Core
 
 abbrev pub tick_turn : TickFed → TurnFed
-tick_turn r = record { answer = r.answer; rows = cond (is_done_of r.answer) (clocked r.outputs ∷ []) []; core = r.core }
+tick_turn r = record { answer = r.answer; rows = cond (is_ok r.answer) (clocked r.outputs ∷ []) []; core = r.core }
 
 -- `feed_of` is what `Core::feed` is proved to give, and `core_tick_of` what `tick` is.
 abbrev pub turn_of : Lent → List ℕ → Core → Turn → TurnFed

@@ -1,8 +1,6 @@
 -- The plain machine with ticks: it holds a valid state and nothing more, and is fed turns, each an event or a tick.
-use Rattle.std.specs.Prelude.{ℕ, cond, List, [], ◌∷◌}
-use Rattle.answers.specs.declared.Answer.{Answer}
-use Rattle.answers.specs.declared.Answer.TheVariants.{Done}
-use Rattle.answers.specs.Answers.{first_of, is_done_of}
+use Rattle.std.specs.Prelude.{ℕ, cond, List, [], ◌∷◌, is_ok, Result, Ok, Err}
+use Rattle.answers.specs.Answers.{first_of, Answer, done}
 use Rattle.mixing.specs.Topology.{topology_of}
 use Rattle.signals.specs.Lent.{voices_of}
 use Rattle.control.specs.declared.State.{State}
@@ -12,11 +10,11 @@ use Rattle.sample.specs.declared.Outputs.{Outputs}
 use Rattle.script.specs.declared.Event.{Event}
 use Rattle.clock.specs.declared.TickOutputs.{TickOutputs}
 use Rattle.clock.specs.declared.Ticked.{Ticked}
-use Rattle.clock.specs.declared.Ticked.TheVariants.{Clocked, Refused}
 use Rattle.clock.specs.Clock.{clock_of}
 use Rattle.filter.specs.Lent.{Lent}
 use Rattle.filter.specs.Plain.{Plain, plain_step}
 use Rattle.turns.specs.Turns.{judge_voices_of, settings_of, after_state}
+use Rattle.answers.specs.declared.Refusal.{Refusal}
 
 -- An event, or a tick with the 36 bytes of its three voices.
 pub data Turn : Type 0 where
@@ -45,9 +43,9 @@ event_turn p = record { answer = p.answer; rows = sampled_all p.sample; state = 
 
 -- ---- a tick: 11, then 3 and 6 of the controls, then the stages of `Filter::clock`
 
-abbrev pub plain_clocked : State → Ticked → PlainTurn
-plain_clocked s (Clocked outputs i t) = record { answer = Done; rows = clocked outputs ∷ []; state = after_state s i t }
-plain_clocked s (Refused answer) = record { answer = answer; rows = []; state = s }
+abbrev pub plain_clocked : State → Result Ticked Refusal → PlainTurn
+plain_clocked s (Ok (record { outputs = outputs; integrator = i; transients = t })) = record { answer = done; rows = clocked outputs ∷ []; state = after_state s i t }
+plain_clocked s (Err answer) = record { answer = answer; rows = []; state = s }
 
 -- with topology and controls worked out afresh
 unfoldable pub plain_tick : Lent → List ℕ → State → List ℕ → PlainTurn
@@ -55,7 +53,7 @@ plain_tick l levels s voices =
     let r = s.registers in
     let settings = settings_of l levels r (topology_of r.routing r.mode) (refresh_register_output_state_of r) in
     let judged = first_of (judge_voices_of voices) (judge_controls_of l.bundle s) in
-    cond (is_done_of judged)
+    cond (is_ok judged)
     (plain_clocked s (clock_of l.bundle l.curves (controls_of l.bundle s) settings s.integrator s.transients (voices_of voices)))
     (record { answer = judged; rows = []; state = s })
 

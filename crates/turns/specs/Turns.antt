@@ -1,8 +1,7 @@
 -- A tick on a core (docs/FORMATS.md): what it is lent beside bundle, curves and decays, what it reads of the core, what it refuses and what it hands back.
-use Rattle.std.specs.Prelude.{ℕ, cond, ◌&&◌, List, eqb, length}
-use Rattle.answers.specs.declared.Answer.{Answer}
-use Rattle.answers.specs.declared.Answer.TheVariants.{Done, Argument, Sources}
-use Rattle.answers.specs.Answers.{first_of, unless_of, is_done_of}
+use Rattle.std.specs.Prelude.{ℕ, cond, ◌&&◌, List, eqb, length, Err, is_ok, Result, Ok}
+use Rattle.answers.specs.declared.Refusal.TheVariants.{Argument, Sources}
+use Rattle.answers.specs.Answers.{first_of, unless_of, Answer, done}
 use Rattle.floats.specs.Arithmetic.{f32}
 use Rattle.integrator.specs.declared.IntegratorState.{IntegratorState}
 use Rattle.mixing.specs.declared.MixingTopology.{MixingTopology}
@@ -17,7 +16,6 @@ use Rattle.controls.specs.Judging.{judge_controls_of}
 use Rattle.clock.specs.declared.Settings.{Settings}
 use Rattle.clock.specs.declared.TickOutputs.{TickOutputs}
 use Rattle.clock.specs.declared.Ticked.{Ticked}
-use Rattle.clock.specs.declared.Ticked.TheVariants.{Clocked, Refused}
 use Rattle.clock.specs.Transients.{factors_of}
 use Rattle.clock.specs.Clock.{slots_of, clock_of}
 use Rattle.filter.specs.declared.Core.{Core}
@@ -25,6 +23,7 @@ use Rattle.filter.specs.declared.Written.{Written}
 use Rattle.filter.specs.Lent.{Lent, judge_lent_of}
 use Rattle.filter.specs.Core.{core_start_of, judge_take_of}
 use Rattle.turns.specs.declared.TickFed.{TickFed}
+use Rattle.answers.specs.declared.Refusal.{Refusal}
 
 -- ---- 11
 
@@ -75,10 +74,10 @@ abbrev pub after_state : State → IntegratorState → TransientState → State
 after_state s i t = record { registers = s.registers; integrator = i; transients = t }
 
 -- and so does all that is kept
-abbrev pub ticked_of : Core → Ticked → TickFed
-ticked_of k (Clocked outputs i t) =
-    record { answer = Done; outputs = outputs; core = record { state = after_state k.state i t; topology = k.topology; controls = k.controls } }
-ticked_of k (Refused answer) = unticked_of answer k
+abbrev pub ticked_of : Core → Result Ticked Refusal → TickFed
+ticked_of k (Ok (record { outputs = outputs; integrator = i; transients = t })) =
+    record { answer = done; outputs = outputs; core = record { state = after_state k.state i t; topology = k.topology; controls = k.controls } }
+ticked_of k (Err answer) = unticked_of answer k
 
 -- the topology and the controls as they are handed in
 unfoldable pub take_tick_of : Lent → List ℕ → Core → List ℕ → TickFed
@@ -94,4 +93,4 @@ judge_tick_of l levels k voices = first_of (judge_take_of l k) (first_of (judge_
 unfoldable pub core_tick_of : Lent → List ℕ → Core → List ℕ → TickFed
 core_tick_of l levels k voices =
     let judged = judge_tick_of l levels k voices in
-    cond (is_done_of judged) (take_tick_of l levels k voices) (unticked_of judged k)
+    cond (is_ok judged) (take_tick_of l levels k voices) (unticked_of judged k)

@@ -27,14 +27,14 @@ pub fn judge_levels(levels: &[u8]) -> Answer
     let finite = wire::finite_at(levels, 0)
         & wire::finite_at(levels, 4)
         & wire::finite_at(levels, 8);
-    answers::unless((levels.len() == 12) & finite, Answer::Sources)
+    answers::unless((levels.len() == 12) & finite, Err(Refusal::Sources))
 }
 
 // A tick's three voices are 36 bytes, each valid. Refuses 11.
 pub fn judge_voices(voices: &[u8]) -> Answer
     ensures { result ≡ T.judge_voices_of voices.now }
 {
-    answers::unless(signals::valid_voices(voices), Answer::Sources)
+    answers::unless(signals::valid_voices(voices), Refusal::Sources)
 }
 
 // Works the core of a state out: the first core of a list with ticks. Refuses 1, 2, 4, 10, 12, 11, 3, 6.
@@ -44,7 +44,7 @@ pub fn start(bundle: &[u8], curves: &[u8], decays: &[u8], levels: &[u8], state: 
     let started = Core::start(bundle, curves, decays, state);
     let answer = started.answer;
     let core = started.core;
-    let valid = answers::unless(state.is_valid(), Answer::Argument);
+    let valid = answers::unless(state.is_valid(), Refusal::Argument);
     let known = answers::first(filter::judge_lent(bundle, curves), valid);
     let lent = answers::first(known, transients::judge_decays(decays));
     let levelled = answers::first(lent, judge_levels(levels));
@@ -106,7 +106,7 @@ fn ticked(before: Core, clocked: Ticked) -> TickFed
             next.transients = transients;
             core.state = next;
             TickFed {
-                answer: Answer::Done,
+                answer: Ok(()),
                 outputs,
                 core,
             }
@@ -173,7 +173,7 @@ pub fn tick(
     ensures { result ≡ T.core_tick_of (lent_all bundle.now curves.now decays.now) levels.now core voices.now }
 {
     let judged = judge_tick(core, bundle, curves, decays, levels, voices);
-    if answers::is_done(judged) {
+    if judged.is_ok() {
         return take_tick(core, bundle, curves, decays, levels, voices);
     }
     unticked(judged, core)

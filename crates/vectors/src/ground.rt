@@ -81,29 +81,29 @@ pub(crate) fn answer(r: &[u8]) -> bool {
 // The refusal of a number (docs/FORMATS.md).
 fn answer_of(number: u32, buffer: u32, place: u32) -> Answer {
     match number {
-        0 => Answer::Done,
-        1 => Answer::BundleLength,
-        2 => Answer::Header { place },
+        0 => Ok(()),
+        1 => Err(Refusal::BundleLength),
+        2 => Err(Refusal::Header) { place },
         3 => entry_of(buffer, place),
-        4 => Answer::CurvesLength,
-        5 => Answer::InputNotFinite,
-        6 => Answer::Domain,
-        7 => Answer::Script,
-        8 => Answer::OutputLength,
-        10 => Answer::Argument,
-        11 => Answer::Sources,
-        _ => Answer::Decays,
+        4 => Err(Refusal::CurvesLength),
+        5 => Err(Refusal::InputNotFinite),
+        6 => Err(Refusal::Domain),
+        7 => Err(Refusal::Script),
+        8 => Err(Refusal::OutputLength),
+        10 => Err(Refusal::Argument),
+        11 => Err(Refusal::Sources),
+        _ => Err(Refusal::Decays),
     }
 }
 
 fn entry_of(buffer: u32, place: u32) -> Answer {
     if buffer == 0 {
-        Answer::Entry {
+        Err(Refusal::Entry) {
             buffer: Buffer::Bundle,
             place,
         }
     } else {
-        Answer::Entry {
+        Err(Refusal::Entry) {
             buffer: Buffer::Curves,
             place,
         }

@@ -1,5 +1,5 @@
 // Records of what a state is charged with: mode writes, and blocks without charges that are widened.
-use control::{DecodedState, State};
+use control::{Option<State>, State};
 use replay::has_flag;
 
 // The bytes of a record from one place up to another; none where it ends before.
@@ -17,8 +17,8 @@ pub(crate) fn charge(r: &[u8]) -> bool {
     let decoded = State::decode(part(r, 0, 68));
     let value = wire::byte_at(r, 68);
     match decoded {
-        DecodedState::Valid(state) => has_charged(r, state.write_mode_and_volume(value)),
-        DecodedState::Invalid => false,
+        Some(state) => has_charged(r, state.write_mode_and_volume(value)),
+        None => false,
     }
 }
 

@@ -1,7 +1,7 @@
 // Records of the integrator.
 ghost use Rattle.std.specs.Prelude.{◌<◌};
 
-use integrator::{Advanced, Coefficients, IntegratorState, Substeps};
+use integrator::{Advanced, Coefficients, IntegratorState, Option<Advanced>};
 use replay::{has, has_floats};
 
 pub(crate) fn saturate(r: &[u8]) -> bool {
@@ -25,8 +25,8 @@ pub(crate) fn substeps(r: &[u8]) -> bool {
     let settled = settled_at(r, 32) & settled_at(r, 52) & settled_at(r, 72) & settled_at(r, 92);
     let four = state_at(r).four_substeps(wire::f32_at(r, 8), coefficients_at(r));
     match four {
-        Substeps::Settled(last) => settled & has_advanced(r, 92, last),
-        Substeps::NotFinite => !settled,
+        Some(last) => settled & has_advanced(r, 92, last),
+        None => !settled,
     }
 }
 

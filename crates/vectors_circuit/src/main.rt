@@ -15,7 +15,7 @@ use std::io::Print;
 enum Kind {
     Saturate,
     Advance,
-    Substeps,
+    Option<Advanced>,
     OperatingPosition,
     Conductance,
     CommonMode,
@@ -30,7 +30,7 @@ fn agrees(kind: Kind, r: &[u8]) -> bool {
     match kind {
         Kind::Saturate => circuit::saturate(r),
         Kind::Advance => circuit::advance(r),
-        Kind::Substeps => circuit::substeps(r),
+        Kind::Option<Advanced> => circuit::substeps(r),
         Kind::OperatingPosition => levels::operating_position(r),
         Kind::Conductance => levels::conductance(r),
         Kind::CommonMode => levels::common_mode(r),
@@ -46,7 +46,7 @@ fn agrees(kind: Kind, r: &[u8]) -> bool {
 fn main(rt: HostRuntime) {
     replay_file(&rt, Kind::Saturate, b"saturate.bin", 3);
     replay_file(&rt, Kind::Advance, b"advance.bin", 13);
-    replay_file(&rt, Kind::Substeps, b"substeps.bin", 28);
+    replay_file(&rt, Kind::Option<Advanced>, b"substeps.bin", 28);
     replay_file(&rt, Kind::OperatingPosition, b"operating_position.bin", 6);
     replay_file(&rt, Kind::Conductance, b"conductance.bin", 2);
     replay_file(&rt, Kind::CommonMode, b"common_mode.bin", 3);

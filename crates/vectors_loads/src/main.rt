@@ -39,7 +39,7 @@ fn whole_load(r: &[u8], bundle: &[u8], curves: &[u8]) -> bool {
     let answer = sampled.answer;
     let read = sid_filter::sid_filter_sample_curve(curves, load, input);
     let point = read.point;
-    answers::is_done(answer)
+    answer.is_ok()
         & (read.answer.number == 0)
         & (sampled.value == point.value)
         & (wire::float_bits(sampled.value) == wire::u32_at(r, 40))

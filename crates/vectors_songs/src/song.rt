@@ -70,7 +70,7 @@ fn agrees(piece: &[u8], bundle: &[u8], curves: &[u8], decays: &[u8], block: &mut
     let samples = samples_of(piece);
     let ended = run::run(bundle, curves, block, decays, script, &mut output);
     let answer = ended.answer;
-    answers::is_done(answer)
+    answer.is_ok()
         & (ended.events == wire::u32_at(script, 0) as usize)
         & (ended.samples == wire::u32_at(piece, 8) as usize)
         & check::same(first(&output, sample_bytes(piece)), samples)

@@ -1,22 +1,22 @@
 // Records of the filter's core: what is kept of a state, and a sample. Each starts with a state's block.
-use control::{DecodedState, State};
+use control::{Option<State>, State};
 use mixing::MixingTopology;
 use refresh::Refreshed;
 use replay::{has_flag, has_floats, has_size};
 use sample::Sampled;
 
-fn state_at(r: &[u8]) -> DecodedState {
+fn state_at(r: &[u8]) -> Option<State> {
     if 68 <= r.len() {
         return State::decode(&r[0..68]);
     }
-    DecodedState::Invalid
+    None
 }
 
 pub(crate) fn controls(r: &[u8], bundle: &[u8]) -> bool {
     let decoded = state_at(r);
     match decoded {
-        DecodedState::Valid(state) => has_controls(r, refresh::refresh(bundle, state)),
-        DecodedState::Invalid => false,
+        Some(state) => has_controls(r, refresh::refresh(bundle, state)),
+        None => false,
     }
 }
 
@@ -47,7 +47,7 @@ fn has_controls(r: &[u8], refreshed: Refreshed) -> bool {
         o.pure_bypass_common_mode_gain,
         o.scaled_filter_common_mode,
     ];
-    answers::is_done(answer)
+    answer.is_ok()
         & has_size(r, 68, f.effective_cutoff_index)
         & has_floats(r, 72, &integrator_gain)
         & has_floats(r, 136, &input_drive)
@@ -61,9 +61,9 @@ fn has_controls(r: &[u8], refreshed: Refreshed) -> bool {
 pub(crate) fn sample(r: &[u8], bundle: &[u8], curves: &[u8]) -> bool {
     let decoded = state_at(r);
     match decoded {
-        DecodedState::Valid(state) => keeps_rest(r)
+        Some(state) => keeps_rest(r)
             & has_sampled(r, sampled(r, bundle, curves, state)),
-        DecodedState::Invalid => false,
+        None => false,
     }
 }
 

@@ -2,10 +2,10 @@ use Rattle.clock.specs.Clock.{levelled_of}
 use mathlib.Core.Path.{refl}
 use Rattle.clock.proofs.levelled.Goals as goal
 
-pub returns-in-Refused : goal.returns-in-Refused
+pub returns-in-Err : goal.returns-in-Err
 unfolding levelled_of
-returns-in-Refused c = rw c.in-Refused.is refl
+returns-in-Err c = rw c.in-Err.is refl
 
-pub returns-in-Value : goal.returns-in-Value
+pub returns-in-Ok : goal.returns-in-Ok
 unfolding levelled_of
-returns-in-Value c = rw c.in-Value.is c.clocked.ensures
+returns-in-Ok c = rw c.in-Ok.is c.clocked.ensures

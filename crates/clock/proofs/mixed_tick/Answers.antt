@@ -2,14 +2,14 @@ use Rattle.clock.specs.Clock.{mixed_tick_of}
 use mathlib.Core.Path.{refl}
 use Rattle.clock.proofs.mixed_tick.Goals as goal
 
-pub returns-in-Refused : goal.returns-in-Refused
+pub returns-in-Err : goal.returns-in-Err
 unfolding mixed_tick_of
-returns-in-Refused c = rw c.in-Refused.is refl
+returns-in-Err c = rw c.in-Err.is refl
 
-pub returns-in-Value : goal.returns-in-Value
+pub returns-in-Ok : goal.returns-in-Ok
 unfolding mixed_tick_of
-returns-in-Value c = simp (
-  c.in-Value.is,
+returns-in-Ok c = simp (
+  c.in-Ok.is,
   c.levelled.ensures,
   c.volume_stage-level.ensures,
   c.mixer_output-mixer.ensures,

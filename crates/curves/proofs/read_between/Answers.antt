@@ -5,20 +5,20 @@ use Rattle.bundle.proofs.Reading.{first_refused, second_refused, both_read}
 use Rattle.response.specs.Levels.{interpolate_of}
 use Rattle.curves.proofs.read_between.Goals as goal
 
-pub returns-in-Refused : goal.returns-in-Refused
-returns-in-Refused c =
+pub returns-in-Err : goal.returns-in-Err
+returns-in-Err c =
     let a = c.args in
-    rw (judge_append a.buffer a.bytes.now (a.lower ∷ []) (a.upper ∷ [])) (first_refused _ _ _ _ (sym c.in-Refused.is ∙ c.read_entry-first.ensures))
+    rw (judge_append a.buffer a.bytes.now (a.lower ∷ []) (a.upper ∷ [])) (first_refused _ _ _ _ (sym c.in-Err.is ∙ c.read_entry-first.ensures))
 
-pub returns-in-Refused-second : goal.returns-in-Refused-second
-returns-in-Refused-second c =
+pub returns-in-Err-second : goal.returns-in-Err-second
+returns-in-Err-second c =
     let a = c.args in
     rw (judge_append a.buffer a.bytes.now (a.lower ∷ []) (a.upper ∷ []))
-    (second_refused _ _ _ _ _ (sym c.in-Value.is ∙ c.read_entry-first.ensures) (sym c.in-Refused-second.is ∙ c.read_entry-second.ensures))
+    (second_refused _ _ _ _ _ (sym c.in-Ok.is ∙ c.read_entry-first.ensures) (sym c.in-Err-second.is ∙ c.read_entry-second.ensures))
 
-pub returns-in-Value-second : goal.returns-in-Value-second
-returns-in-Value-second c =
+pub returns-in-Ok-second : goal.returns-in-Ok-second
+returns-in-Ok-second c =
     let a = c.args in
     rw (judge_append a.buffer a.bytes.now (a.lower ∷ []) (a.upper ∷ []), c.interpolate.ensures)
-    (both_read _ _ _ _ (λ x y. interpolate_of x y a.fraction) (sym c.in-Value.is ∙ c.read_entry-first.ensures)
-    (sym c.in-Value-second.is ∙ c.read_entry-second.ensures))
+    (both_read _ _ _ _ (λ x y. interpolate_of x y a.fraction) (sym c.in-Ok.is ∙ c.read_entry-first.ensures)
+    (sym c.in-Ok-second.is ∙ c.read_entry-second.ensures))

@@ -15,24 +15,24 @@ read_row-upper-requires c =
     let a = c.args in
     rw (c.load_position-load.ensures, c.input_position-at.ensures) (load_upper a.conductance, input_lower a.input, input_upper a.input)
 
-pub returns-in-Refused : goal.returns-in-Refused
+pub returns-in-Err : goal.returns-in-Err
 unfolding sample_of sample_places_of
-returns-in-Refused c =
+returns-in-Err c =
     let a = c.args in
-    rw (← c.load_position-load.ensures, ← c.input_position-at.ensures, corners_apart a.bundle.now) (first_refused _ _ _ _ (sym c.in-Refused.is ∙ c.read_row-lower.ensures))
+    rw (← c.load_position-load.ensures, ← c.input_position-at.ensures, corners_apart a.bundle.now) (first_refused _ _ _ _ (sym c.in-Err.is ∙ c.read_row-lower.ensures))
 
-pub returns-in-Refused-upper : goal.returns-in-Refused-upper
+pub returns-in-Err-upper : goal.returns-in-Err-upper
 unfolding sample_of sample_places_of
-returns-in-Refused-upper c =
+returns-in-Err-upper c =
     let a = c.args in
     rw (← c.load_position-load.ensures, ← c.input_position-at.ensures, corners_apart a.bundle.now)
-    (second_refused _ _ _ _ _ (sym c.in-Value.is ∙ c.read_row-lower.ensures) (sym c.in-Refused-upper.is ∙ c.read_row-upper.ensures))
+    (second_refused _ _ _ _ _ (sym c.in-Ok.is ∙ c.read_row-lower.ensures) (sym c.in-Err-upper.is ∙ c.read_row-upper.ensures))
 
-pub returns-in-Value-upper : goal.returns-in-Value-upper
+pub returns-in-Ok-upper : goal.returns-in-Ok-upper
 unfolding sample_of sample_at_of sample_places_of
-returns-in-Value-upper c =
+returns-in-Ok-upper c =
     let a = c.args in
     let load = c.load_position-load.result in
     rw (← c.load_position-load.ensures, ← c.input_position-at.ensures, corners_apart a.bundle.now, c.interpolate.ensures)
-    (both_read _ _ _ _ (λ x y. interpolate_of x y load.fraction) (sym c.in-Value.is ∙ c.read_row-lower.ensures)
-    (sym c.in-Value-upper.is ∙ c.read_row-upper.ensures))
+    (both_read _ _ _ _ (λ x y. interpolate_of x y load.fraction) (sym c.in-Ok.is ∙ c.read_row-lower.ensures)
+    (sym c.in-Ok-upper.is ∙ c.read_row-upper.ensures))

@@ -1,7 +1,7 @@
 use Rattle.probe.proofs.probe_controls.Goals as goal
 
-pub returns-in-Valid : goal.returns-in-Valid
-returns-in-Valid c = simp (← c.decode-decoded.ensures, c.in-Valid.is) c.refreshed.ensures
+pub returns-in-Some : goal.returns-in-Some
+returns-in-Some c = simp (← c.decode-decoded.ensures, c.in-Some.is) c.refreshed.ensures
 
-pub returns-in-Invalid : goal.returns-in-Invalid
-returns-in-Invalid c = simp (← c.decode-decoded.ensures, c.in-Invalid.is, ← c.new.ensures) c.refreshed-in-Invalid.ensures
+pub returns-in-None : goal.returns-in-None
+returns-in-None c = simp (← c.decode-decoded.ensures, c.in-None.is, ← c.new.ensures) c.refreshed-in-None.ensures

@@ -8,20 +8,20 @@ use Rattle.floats.specs.Arithmetic.{◌⊗◌}
 use Rattle.response.specs.Gain.{symmetric_gain_of, mode_index_of}
 use Rattle.refresh.proofs.read_directional.Goals as goal
 
-pub returns-in-Refused : goal.returns-in-Refused
-returns-in-Refused c =
+pub returns-in-Err : goal.returns-in-Err
+returns-in-Err c =
     let e = simp
     (c.directional_power_place-place.ensures, c.mode_index-row.ensures, to_z-of_z w16 c.args.displacement c.ranges.displacement) at
     c.read_entry-power.ensures in
-    simp (← c.is_single_mode.ensures, c.if-is_single_mode.true) (still_refused _ _ _ (sym c.in-Refused.is ∙ e))
+    simp (← c.is_single_mode.ensures, c.if-is_single_mode.true) (still_refused _ _ _ (sym c.in-Err.is ∙ e))
 
-pub returns-in-Value : goal.returns-in-Value
-returns-in-Value c =
+pub returns-in-Ok : goal.returns-in-Ok
+returns-in-Ok c =
     let e = simp
     (c.directional_power_place-place.ensures, c.mode_index-row.ensures, to_z-of_z w16 c.args.displacement c.ranges.displacement) at
     c.read_entry-power.ensures in
     simp (← c.is_single_mode.ensures, c.if-is_single_mode.true, c.symmetric_gain.ensures, c.mode_index-row.ensures)
-    (read_through _ _ (λ x. symmetric_gain_of (mode_index_of c.args.m) c.args.cutoff ⊗ x) (sym c.in-Value.is ∙ e))
+    (read_through _ _ (λ x. symmetric_gain_of (mode_index_of c.args.m) c.args.cutoff ⊗ x) (sym c.in-Ok.is ∙ e))
 
 pub returns : goal.returns
 unfolding judge_places_of read_of

@@ -13,19 +13,19 @@ pub returns-in_default : goal.returns-in_default
 returns-in_default c = absurd (unreadable _ _ _ _ _ _ _ _ c.loop-i.invariant c.loop-i-test.true (sym c.event_at.ensures ∙ c.in_default.is))
 
 pub returns-then-ask : goal.returns-then-ask
-returns-then-ask c = sampled _ _ _ _ _ _ _ _ c.loop-i.invariant c.loop-i-test.true c.in-Readable.event (sym c.event_at.ensures ∙ c.in-Readable.is) c.asks-ask.ensures c.if-ask.true
+returns-then-ask c = sampled _ _ _ _ _ _ _ _ c.loop-i.invariant c.loop-i-test.true c.in-Some.event (sym c.event_at.ensures ∙ c.in-Some.is) c.asks-ask.ensures c.if-ask.true
 
 pub judge_next-judged-requires : goal.judge_next-judged-requires
 judge_next-judged-requires c = known _ _ _ _ _ _ _ _ c.loop-i.invariant
 
 pub returns-then-not-is_done : goal.returns-then-not-is_done
 returns-then-not-is_done c =
-    refused _ _ _ _ _ _ _ _ c.loop-i.invariant c.loop-i-test.true c.in-Readable.event (sym c.event_at.ensures ∙ c.in-Readable.is) c.asks-ask.ensures
+    refused _ _ _ _ _ _ _ _ c.loop-i.invariant c.loop-i-test.true c.in-Some.event (sym c.event_at.ensures ∙ c.in-Some.is) c.asks-ask.ensures
     c.if-ask.false c.next_registers-registers.ensures c.judge_next-judged.ensures c.is_done.ensures c.if-not-is_done.true
 
 pub returns-then-not-finite_charges : goal.returns-then-not-finite_charges
 returns-then-not-finite_charges c =
-    overflows _ _ _ _ _ _ _ _ c.loop-i.invariant c.loop-i-test.true c.in-Readable.event (sym c.event_at.ensures ∙ c.in-Readable.is) c.asks-ask.ensures
+    overflows _ _ _ _ _ _ _ _ c.loop-i.invariant c.loop-i-test.true c.in-Some.event (sym c.event_at.ensures ∙ c.in-Some.is) c.asks-ask.ensures
     c.if-ask.false c.next_registers-registers.ensures c.judge_next-judged.ensures c.is_done.ensures c.if-not-is_done.false
     c.charges.ensures c.if-charges.true c.charge-transients.ensures c.finite_charges.ensures c.if-not-finite_charges.true
 
@@ -44,8 +44,8 @@ pub loop-i-preserved : goal.loop-i-preserved
 loop-i-preserved c =
     let inv = c.loop-i.invariant in
     let more = c.loop-i-test.true in
-    let event = c.in-Readable.event in
-    let is = sym c.event_at.ensures ∙ c.in-Readable.is in
+    let event = c.in-Some.event in
+    let is = sym c.event_at.ensures ∙ c.in-Some.is in
     let other = c.if-ask.false in
     let done = c.if-not-is_done.false in
     elim c.if-charges.branch [

@@ -27,7 +27,7 @@ put_outputs-requires c =
     outputs_finite_lem _ _ _ _ _ _ _ _ _ _ _
     (c.sample_from_parts.ensures ∙ parts_sample _ _ _ c.parts_of-parts.ensures _
     c.input_drives-input_drives.ensures c.feedback_drives-feedback_drives.ensures c.summer_slot-slot.ensures _ _ _)
-    c.in-Taken.is
+    c.in-Ok.is
 
 pub overflow_add-samples : goal.overflow_add-samples
 overflow_add-samples c =
@@ -36,8 +36,8 @@ overflow_add-samples c =
     let most = c.requires.ahead.few in
     record { fits = omega arith }
 
-pub overflow_add-i-in-Taken : goal.overflow_add-i-in-Taken
-overflow_add-i-in-Taken c =
+pub overflow_add-i-in-Ok : goal.overflow_add-i-in-Ok
+overflow_add-i-in-Ok c =
     let few = c.loop-i.invariant.few in
     let within = c.loop-i.invariant.within in
     let most = c.requires.ahead.few in
@@ -51,27 +51,27 @@ loop-i-smaller c =
 pub loop-i-preserved : goal.loop-i-preserved
 loop-i-preserved c =
     rw c.put_outputs.ensures
-    (turned _ _ _ _ _ _ _ _ _ _ _ _ _ _ _ c.loop-i.invariant c.loop-i-test.true c.in-Readable.event (sym c.event_at.ensures ∙ c.in-Readable.is)
+    (turned _ _ _ _ _ _ _ _ _ _ _ _ _ _ _ c.loop-i.invariant c.loop-i-test.true c.in-Some.event (sym c.event_at.ensures ∙ c.in-Some.is)
     c.asks-ask.ensures c.if-ask.true _ _
     (c.sample_from_parts.ensures ∙ parts_sample _ _ _ c.parts_of-parts.ensures _
     c.input_drives-input_drives.ensures c.feedback_drives-feedback_drives.ensures c.summer_slot-slot.ensures _ _ _)
-    c.in-Taken.is)
+    c.in-Ok.is)
 
-pub returns-in-Refused : goal.returns-in-Refused
-returns-in-Refused c =
+pub returns-in-Err : goal.returns-in-Err
+returns-in-Err c =
     rw (← c.parts_of-parts.ensures)
-    (let told = refused _ _ _ _ _ _ _ _ _ _ _ _ _ _ _ c.loop-i.invariant c.loop-i-test.true c.in-Readable.event (sym c.event_at.ensures ∙ c.in-Readable.is)
+    (let told = refused _ _ _ _ _ _ _ _ _ _ _ _ _ _ _ c.loop-i.invariant c.loop-i-test.true c.in-Some.event (sym c.event_at.ensures ∙ c.in-Some.is)
     c.asks-ask.ensures c.if-ask.true _
     (c.sample_from_parts.ensures ∙ parts_sample _ _ _ c.parts_of-parts.ensures _
     c.input_drives-input_drives.ensures c.feedback_drives-feedback_drives.ensures c.summer_slot-slot.ensures _ _ _)
-    c.in-Refused.is in
+    c.in-Err.is in
     record { value = told.0; output_after = told.1 })
 
 pub returns-else-ask : goal.returns-else-ask
 returns-else-ask c =
     rw (← c.parts_of-parts.ensures)
-    (let told = other _ _ _ _ _ _ _ _ _ _ _ _ _ _ _ c.loop-i.invariant c.loop-i-test.true c.in-Readable.event
-    (sym c.event_at.ensures ∙ c.in-Readable.is) c.asks-ask.ensures c.if-ask.false in
+    (let told = other _ _ _ _ _ _ _ _ _ _ _ _ _ _ _ c.loop-i.invariant c.loop-i-test.true c.in-Some.event
+    (sym c.event_at.ensures ∙ c.in-Some.is) c.asks-ask.ensures c.if-ask.false in
     record { value = told.0; output_after = told.1 })
 
 pub returns : goal.returns

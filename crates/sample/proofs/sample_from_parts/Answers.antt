@@ -14,9 +14,9 @@ returns-in-Idle c =
       taken_parts a.gains.now a.input_drives.now a.feedback_drives.now a.core a.mode_output_gain,
     )
 
-pub returns-in-Refused : goal.returns-in-Refused
+pub returns-in-Err : goal.returns-in-Err
 unfolding stepped_of
-returns-in-Refused c = rw (← c.core_input-fed.ensures, c.in-Refused.is)
+returns-in-Err c = rw (← c.core_input-fed.ensures, c.in-Err.is)
 
 pub returns-in-Level : goal.returns-in-Level
 unfolding stepped_of

@@ -1,20 +1,20 @@
 use Rattle.sample.specs.Parts.{above_of}
 use Rattle.sample.proofs.summed.Goals as goal
 
-pub returns-in-Refused : goal.returns-in-Refused
+pub returns-in-Err : goal.returns-in-Err
 unfolding above_of
-returns-in-Refused c =
+returns-in-Err c =
     let e = simp c.average.ensures at c.read_curve-curve.ensures in
-    rw (← e, c.in-Refused.is)
+    rw (← e, c.in-Err.is)
 
-pub returns-in-Refused-rest : goal.returns-in-Refused-rest
+pub returns-in-Err-rest : goal.returns-in-Err-rest
 unfolding above_of
-returns-in-Refused-rest c =
+returns-in-Err-rest c =
     let e = simp c.average.ensures at c.read_curve-curve.ensures in
-    rw (← e, c.in-Value.is, c.in-Refused-rest.is)
+    rw (← e, c.in-Ok.is, c.in-Err-rest.is)
 
-pub returns-in-Value-rest : goal.returns-in-Value-rest
+pub returns-in-Ok-rest : goal.returns-in-Ok-rest
 unfolding above_of
-returns-in-Value-rest c =
+returns-in-Ok-rest c =
     let e = simp c.average.ensures at c.read_curve-curve.ensures in
-    rw (← e, c.in-Value.is, c.in-Value-rest.is)
+    rw (← e, c.in-Ok.is, c.in-Ok-rest.is)

@@ -15,13 +15,13 @@ returns-in_default c =
     sym (c.loop-i.invariant.2 ∙ tally_stop a.script.now a.count c.loop-i.samples c.loop-i.i c.loop-i-test.true (sym c.event_at.ensures ∙ c.in_default.is))
 
 pub overflow_add-samples : goal.overflow_add-samples
-overflow_add-samples c = record { fits = omega (arith, c.sample_count-samples.ensures, sample_le c.in-Readable.event) }
+overflow_add-samples c = record { fits = omega (arith, c.sample_count-samples.ensures, sample_le c.in-Some.event) }
 
 pub loop-i-preserved : goal.loop-i-preserved
 loop-i-preserved c =
     let a = c.args in
-    let m = tally_more a.script.now a.count c.loop-i.samples c.loop-i.i c.loop-i-test.true c.in-Readable.event (sym c.event_at.ensures ∙ c.in-Readable.is) in
-    (omega arith, omega (arith, c.sample_count-samples.ensures, sample_le c.in-Readable.event), rw c.sample_count-samples.ensures (c.loop-i.invariant.2 ∙ m))
+    let m = tally_more a.script.now a.count c.loop-i.samples c.loop-i.i c.loop-i-test.true c.in-Some.event (sym c.event_at.ensures ∙ c.in-Some.is) in
+    (omega arith, omega (arith, c.sample_count-samples.ensures, sample_le c.in-Some.event), rw c.sample_count-samples.ensures (c.loop-i.invariant.2 ∙ m))
 
 pub returns : goal.returns
 returns c =

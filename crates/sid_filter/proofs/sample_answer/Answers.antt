@@ -1,10 +1,10 @@
 use mathlib.Core.Path.{sym, ap, subst}
 use lib.Dec.{T}
-use Rattle.answers.specs.declared.Answer.{Answer}
 use Rattle.sid_filter.specs.Calls.{run_answer_of}
 use Rattle.sid_filter.proofs.SamplePoint.{other_length, told_one, told_five, told_other}
 use borrow.Author.Tests.{ne_eqb}
 use Rattle.sid_filter.proofs.sample_answer.Goals as goal
+use Rattle.answers.specs.Answers.{Answer}
 
 pub returns-then-state-ne-BYTES : goal.returns-then-state-ne-BYTES
 returns-then-state-ne-BYTES c =

@@ -63,14 +63,14 @@ pub loop-i-preserved : goal.loop-i-preserved
 loop-i-preserved c =
     let part : 36 * c.loop-i.i + 36 - 36 * c.loop-i.i ≡ 36 = omega arith in
     rw c.put_tick.ensures
-    (row_taken _ _ _ _ _ _ _ _ _ _ _ _ _ c.loop-i.invariant c.loop-i-test.true (rw part refl) c.voiced_tick.ensures _ _ _ c.in-Clocked.is)
+    (row_taken _ _ _ _ _ _ _ _ _ _ _ _ _ c.loop-i.invariant c.loop-i-test.true (rw part refl) c.voiced_tick.ensures _ _ _ c.in-Ok.is)
 
-pub returns-in-Refused : goal.returns-in-Refused
-returns-in-Refused c =
+pub returns-in-Err : goal.returns-in-Err
+returns-in-Err c =
     let part : 36 * c.loop-i.i + 36 - 36 * c.loop-i.i ≡ 36 = omega arith in
     rw (← c.tick_count-count.ensures)
     (let told =
-    row_refused _ _ _ _ _ _ _ _ _ _ _ _ _ c.loop-i.invariant c.loop-i-test.true (rw part refl) c.voiced_tick.ensures _ c.in-Refused.is in
+    row_refused _ _ _ _ _ _ _ _ _ _ _ _ _ c.loop-i.invariant c.loop-i-test.true (rw part refl) c.voiced_tick.ensures _ c.in-Err.is in
     record { value = told.0; output_after = told.1 })
 
 pub returns : goal.returns

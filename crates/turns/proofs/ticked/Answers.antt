@@ -1,8 +1,8 @@
 use mathlib.Core.Path.{refl}
 use Rattle.turns.proofs.ticked.Goals as goal
 
-pub returns-in-Clocked : goal.returns-in-Clocked
-returns-in-Clocked c = rw c.in-Clocked.is refl
+pub returns-in-Ok : goal.returns-in-Ok
+returns-in-Ok c = rw c.in-Ok.is refl
 
-pub returns-in-Refused : goal.returns-in-Refused
-returns-in-Refused c = rw c.in-Refused.is c.unticked.ensures
+pub returns-in-Err : goal.returns-in-Err
+returns-in-Err c = rw c.in-Err.is c.unticked.ensures

@@ -1,17 +1,17 @@
 use Rattle.bounce_lines.specs.Lines.{words_of}
 use Rattle.bounce_lines.proofs.lines.push_words.Goals as goal
 
-pub returns-in-Done-clause-prefix_len : goal.returns-in-Done-clause-prefix_len
+pub returns-in-done-clause-prefix_len : goal.returns-in-done-clause-prefix_len
 unfolding words_of
-returns-in-Done-clause-prefix_len c = c.push.ensures.prefix_len
+returns-in-done-clause-prefix_len c = c.push.ensures.prefix_len
 
-pub returns-in-Done-clause-value : goal.returns-in-Done-clause-value
+pub returns-in-done-clause-value : goal.returns-in-done-clause-value
 unfolding words_of
-returns-in-Done-clause-value c = rw c.in-Done.is c.push.ensures.value
+returns-in-done-clause-value c = rw c.in-done.is c.push.ensures.value
 
-pub returns-in-Done-clause-out_after : goal.returns-in-Done-clause-out_after
+pub returns-in-done-clause-out_after : goal.returns-in-done-clause-out_after
 unfolding words_of
-returns-in-Done-clause-out_after c = rw c.in-Done.is c.push.ensures.out_after
+returns-in-done-clause-out_after c = rw c.in-done.is c.push.ensures.out_after
 
 pub returns-in-BundleLength-clause-prefix_len : goal.returns-in-BundleLength-clause-prefix_len
 unfolding words_of
