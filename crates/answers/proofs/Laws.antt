@@ -1,4 +1,6 @@
 -- Answers taken one after the other.
+use Rattle.std.proofs.Common.{ap}
+use Rattle.std.specs.Result.{IsErr, IsErrAnd}
 use Rattle.std.specs.Prelude.{◌≡◌, refl, Bool, true, false, Result, Ok, Err, is_ok}
 use Rattle.answers.specs.declared.Refusal.{Refusal}
 use Rattle.answers.specs.Answers.{Answer, done, first_of, unless_of}
@@ -17,6 +19,16 @@ first_done (Err r) b e = cc
 pub unless_done : (ok : Bool) (refusal : Refusal) → unless_of ok refusal ≡ done → ok ≡ true
 unless_done true refusal h = refl
 unless_done false refusal h = cc
+
+-- A test whose refusal came did not hold.
+pub unless_refused : (ok : Bool) (refusal : Refusal) {r : Refusal} → unless_of ok refusal ≡ Err r → (ok ≡ false) × (refusal ≡ r)
+unless_refused true refusal h = cc
+unless_refused false refusal h = (refl, (cc))
+
+-- What `?` hands on is the refusal that it found.
+pub handed_on : {T : Type 0} (result : Result T Refusal) {r : Refusal} → IsErr result × IsErrAnd result (λ x. x ≡ r) → result ≡ Err r
+handed_on (Ok x) h = absurd h.1
+handed_on (Err x) h = ap Err h.1
 
 -- An answer with nothing after it.
 pub first_of_done : (a : Answer) → first_of a done ≡ a

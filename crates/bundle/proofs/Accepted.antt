@@ -1,4 +1,4 @@
--- Opening answers `Done` exactly for an accepted bundle. No entry is computed: what is used of `first` holds at every count.
+-- Opening answers done exactly for an accepted bundle. No entry is computed: what is used of `first` holds at every count.
 use Prim.Native.Nat.{ℕ, ◌+◌, ◌*◌, ◌≤◌, ◌<◌}
 use mathlib.Core.Path.{◌≡◌, refl, ap, sym, subst, ◌∙◌}
 use mathlib.Core.Bool.{true}
@@ -30,8 +30,8 @@ module _ (bundle : List ℕ) where
   unfolding check_of header_byte
   check_done d =
       let both = first_done (unless_of (eqb (length bundle) bundle_length) BundleLength) (unless_of (leb header_length (first_difference bundle)) (Header (first_difference bundle))) d in
-      let long : length bundle ≡ bundle_length = eqb-true _ _ (unless_done (eqb (length bundle) bundle_length) BundleLength refl both.0) in
-      let all : header_length ≤ first_difference bundle = leb-true _ _ (unless_done (leb header_length (first_difference bundle)) (Header (first_difference bundle)) refl both.1) in
+      let long : length bundle ≡ bundle_length = eqb-true _ _ (unless_done (eqb (length bundle) bundle_length) BundleLength both.0) in
+      let all : header_length ≤ first_difference bundle = leb-true _ _ (unless_done (leb header_length (first_difference bundle)) (Header (first_difference bundle)) both.1) in
       let front : length (take header_length bundle) ≡ header_length = length-take-le header_length bundle (omega arith) in (
         long,
         ext_get_or 0 (take header_length bundle) header (front ∙ sym header_long)
@@ -55,7 +55,7 @@ module _ (bundle : List ℕ) (section : Section) where
 
   pub section_done : judge_section_of bundle section ≡ done → (k : ℕ) → k < section.count → usable_at bundle (entry_place section k) ≡ true
   unfolding judge_section_of
-  section_done d = none_unusable bundle section.offset section.count (leb-true _ _ (unless_done (leb section.count index) (Entry Bundle (entry_place section index)) refl d))
+  section_done d = none_unusable bundle section.offset section.count (leb-true _ _ (unless_done (leb section.count index) (Entry Bundle (entry_place section index)) d))
 
   pub section_passes : ((k : ℕ) → k < section.count → usable_at bundle (entry_place section k) ≡ true) → judge_section_of bundle section ≡ done
   unfolding judge_section_of

@@ -108,7 +108,7 @@ module _ (buffer : Buffer) (bytes : List ℕ) where
     unfolding judge_places_of
     judge_on u = rw (drop-cons places i 0 h, u, add-one)
 
-    pub judge_off : usable_at bytes (get_or places i 0) ≡ false → judge_places_of buffer bytes (drop i places) ≡ Entry buffer (get_or places i 0)
+    pub judge_off : usable_at bytes (get_or places i 0) ≡ false → judge_places_of buffer bytes (drop i places) ≡ Err (Entry buffer (get_or places i 0))
     unfolding judge_places_of
     judge_off u = rw (drop-cons places i 0 h, u)
 
@@ -119,7 +119,7 @@ module _ (buffer : Buffer) (bytes : List ℕ) where
   judge_append (p ∷ a) b = go (usable_at bytes p) (judge_append a b)
     where
       go : (u : Bool) → judge_places_of buffer bytes (a ++ b) ≡ first_of (judge_places_of buffer bytes a) (judge_places_of buffer bytes b)
-          → cond u (judge_places_of buffer bytes (a ++ b)) (Entry buffer p) ≡ first_of (cond u (judge_places_of buffer bytes a) (Entry buffer p)) (judge_places_of buffer bytes b)
+          → cond u (judge_places_of buffer bytes (a ++ b)) (Err (Entry buffer p)) ≡ first_of (cond u (judge_places_of buffer bytes a) (Err (Entry buffer p))) (judge_places_of buffer bytes b)
       go true e = e
       go false e = refl
 
@@ -129,7 +129,7 @@ module _ (buffer : Buffer) (bytes : List ℕ) where
   judge_done [] d i h = absurd (omega arith)
   judge_done (p ∷ rest) d i h = go (usable_at bytes p) refl i h d (judge_done rest)
     where
-      go : (u : Bool) → usable_at bytes p ≡ u → (i : ℕ) → i < length (p ∷ rest) → cond u (judge_places_of buffer bytes rest) (Entry buffer p) ≡ done
+      go : (u : Bool) → usable_at bytes p ≡ u → (i : ℕ) → i < length (p ∷ rest) → cond u (judge_places_of buffer bytes rest) (Err (Entry buffer p)) ≡ done
           → (judge_places_of buffer bytes rest ≡ done → (k : ℕ) → k < length rest → usable_at bytes (get_or rest k 0) ≡ true) → usable_at bytes (get_or (p ∷ rest) i 0) ≡ true
       go true e zero h d r = e
       go true e (suc i) h d r = r d i (omega arith)

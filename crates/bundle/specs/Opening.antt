@@ -32,7 +32,7 @@ check_of bundle =
 -- The first unusable one among the entries at some places of a buffer, in the order of the places.
 unfoldable pub judge_places_of : Buffer → List ℕ → List ℕ → Answer
 judge_places_of buffer bytes [] = done
-judge_places_of buffer bytes (place ∷ rest) = cond (usable_at bytes place) (judge_places_of buffer bytes rest) (Entry buffer place)
+judge_places_of buffer bytes (place ∷ rest) = cond (usable_at bytes place) (judge_places_of buffer bytes rest) (Err (Entry buffer place))
 
 -- The first unusable entry of a section of the bundle.
 unfoldable pub judge_section_of : List ℕ → Section → Answer

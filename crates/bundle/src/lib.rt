@@ -7,7 +7,7 @@ ghost use Rattle.bundle.specs.Layout.{analogue_surface, bundle_length, header_le
 ghost use Rattle.bundle.specs.Reading.{read_of};
 ghost use Rattle.bundle.specs.Opening.{entry_at, header_byte, first_difference, check_of, judge_places_of, judge_section_of, open_of};
 
-use answers::{Answer, Buffer};
+use answers::{Answer, Buffer, Refusal};
 
 // All bytes of a bundle, those of its header, and the entries of four bytes that fill the rest.
 pub const BYTES: usize = 6_127_736;
@@ -130,36 +130,27 @@ pub fn entry_at(bundle: &[u8], place: u32) -> f32
     wire::f32_at(bundle, place as usize)
 }
 
-// What a call that judges each entry as it reads it gives: its value, or the refusal of the first unusable one.
-#[derive(Clone, Copy)]
-pub enum Result<f32, Refusal> {
-    Value(f32),
-    Refused(Answer),
-}
-
 // The entry at a place of a buffer, judged as it is read.
 pub fn read_entry(buffer: Buffer, bytes: &[u8], place: u32) -> Result<f32, Refusal>
     ensures { result ≡ read_of (judge_places_of buffer bytes.now (place ∷ [])) (entry_at bytes.now place) }
 {
     let bits = wire::u32_at(bytes, place as usize);
-    if wire::usable(bits) {
-        return Ok(wire::f32_of(bits));
-    }
-    Err(Refusal::Entry { buffer, place })
+    answers::unless(wire::usable(bits), Refusal::Entry { buffer, place })?;
+    Ok(wire::f32_of(bits))
 }
 
 // Refuses at the first unusable one among the entries at some places, in the order of the places.
 pub fn judge_places(buffer: Buffer, bytes: &[u8], places: &[u32]) -> Answer
     ensures { result ≡ judge_places_of buffer bytes.now places.now }
 {
-    let mut i = 0;
-    while i < places.len() {
-        let place = places[i];
-        if wire::usable_at(bytes, place as usize) {
-            i += 1;
-        } else {
-            return Err(Refusal::Entry) { buffer, place };
-        }
+    for place in places {
+        answers::unless(
+            wire::usable_at(bytes, *place as usize),
+            Refusal::Entry {
+                buffer,
+                place: *place,
+            },
+        )?;
     }
     Ok(())
 }
@@ -171,11 +162,10 @@ fn judge_section(bundle: &[u8], offset: usize, count: usize) -> Answer
 {
     let index = wire::first_unusable(bundle, offset, count);
     if index < count {
-        let place = (offset + 4 * index) as u32;
-        return Err(Refusal::Entry) {
+        return Err(Refusal::Entry {
             buffer: Buffer::Bundle,
-            place,
-        };
+            place: (offset + 4 * index) as u32,
+        });
     }
     Ok(())
 }
@@ -217,27 +207,22 @@ fn difference_from(bundle: &[u8], from: u32) -> u32
     requires { (from ≤ header_length) × ((k : ℕ) → k < from → header_byte bundle.now k ≡ true) }
     ensures { result ≡ first_difference bundle.now }
 {
-    let mut i = from;
-    while i < HEADER_BYTES {
+    for i in from..HEADER_BYTES {
         if wire::byte_at(bundle, i as usize) != header_byte(i) {
             return i;
         }
-        i += 1;
     }
-    i
+    HEADER_BYTES
 }
 
 // The first byte that is not the header's, and its length where there is none: word by word, then in the word that differs.
 fn first_difference(bundle: &[u8]) -> u32
     ensures { result ≡ first_difference bundle.now }
 {
-    let header = HEADER;
-    let mut k = 0;
-    while k < 14 {
-        if !has_word(bundle, k, header[k]) {
-            return difference_from(bundle, (4 * k) as u32);
+    for k in 0..14 {
+        if !has_word(bundle, k, HEADER[k]) {
+            return difference_from(bundle, 4 * k as u32);
         }
-        k += 1;
     }
     HEADER_BYTES
 }
@@ -246,23 +231,15 @@ fn first_difference(bundle: &[u8]) -> u32
 pub fn check(bundle: &[u8]) -> Answer
     ensures { result ≡ check_of bundle.now }
 {
-    if bundle.len() != BYTES {
-        return Err(Refusal::BundleLength);
-    }
+    answers::unless(bundle.len() == BYTES, Refusal::BundleLength)?;
     let place = first_difference(bundle);
-    if place < HEADER_BYTES {
-        return Err(Refusal::Header) { place };
-    }
-    Ok(())
+    answers::unless(HEADER_BYTES <= place, Refusal::Header { place })
 }
 
 // The length, the header, then every entry in order.
 pub fn open(bundle: &[u8]) -> Answer
     ensures { result ≡ open_of bundle.now }
 {
-    let checked = check(bundle);
-    if checked.is_ok() {
-        return judge_section(bundle, HEADER_BYTES as usize, ENTRIES);
-    }
-    checked
+    check(bundle)?;
+    judge_section(bundle, HEADER_BYTES as usize, ENTRIES)
 }

@@ -1,15 +1,15 @@
-use borrow.Author.Tests.{eq-eqb, ne_eqb, le-leb, lt-leb}
+use mathlib.Core.Path.{sym, ◌∙◌}
+use Rattle.answers.proofs.Laws.{handed_on, unless_done, unless_refused}
 use Rattle.bundle.specs.Opening.{check_of}
 use Rattle.bundle.proofs.check.Goals as goal
 
-pub returns-then-bundle-ne-BYTES : goal.returns-then-bundle-ne-BYTES
+pub returns-in_err-unless : goal.returns-in_err-unless
 unfolding check_of
-returns-then-bundle-ne-BYTES c = rw (ne_eqb _ _ c.if-bundle-ne-BYTES.true)
-
-pub returns-then-place-lt-HEADER_BYTES : goal.returns-then-place-lt-HEADER_BYTES
-unfolding check_of
-returns-then-place-lt-HEADER_BYTES c = rw (eq-eqb _ _ c.if-bundle-ne-BYTES.false, ← c.first_difference-place.ensures, lt-leb _ _ c.if-place-lt-HEADER_BYTES.true)
+returns-in_err-unless c =
+    let off = unless_refused _ _ (sym c.unless.ensures ∙ c.in_err-unless.was) in
+    handed_on _ c.from_residual.ensures ∙ simp (off.0, off.1)
 
 pub returns : goal.returns
 unfolding check_of
-returns c = rw (eq-eqb _ _ c.if-bundle-ne-BYTES.false, ← c.first_difference-place.ensures, le-leb _ _ c.if-place-lt-HEADER_BYTES.false)
+returns c =
+    simp (unless_done _ _ (sym c.unless.ensures ∙ c.in_ok-unless.was), ← c.first_difference-place.ensures, c.unless-2.ensures)

@@ -1,10 +1,12 @@
+use mathlib.Core.Path.{sym, ◌∙◌}
+use Rattle.answers.proofs.Laws.{handed_on}
 use Rattle.bundle.specs.Opening.{open_of}
 use Rattle.bundle.proofs.open.Goals as goal
 
-pub returns-then-is_done : goal.returns-then-is_done
+pub returns-in_err-check : goal.returns-in_err-check
 unfolding open_of
-returns-then-is_done c = simp (← c.check-checked.ensures, ← c.is_done.ensures, c.if-is_done.true, c.judge_section.ensures)
+returns-in_err-check c = handed_on _ c.from_residual.ensures ∙ simp (sym c.check.ensures ∙ c.in_err-check.was)
 
 pub returns : goal.returns
 unfolding open_of
-returns c = simp (← c.check-checked.ensures, ← c.is_done.ensures, c.if-is_done.false)
+returns c = simp (c.judge_section.ensures, sym c.check.ensures ∙ c.in_ok-check.was)
