@@ -30,6 +30,10 @@ pub handed_on : {T : Type 0} (result : Result T Refusal) {r : Refusal} → IsErr
 handed_on (Ok x) h = absurd h.1
 handed_on (Err x) h = ap Err h.1
 
+-- The same refusal in place of another value.
+pub same_refusal : {T : Type 0} {a b : Refusal} → ◌≡◌ {A = Result T Refusal} (Err a) (Err b) → a ≡ b
+same_refusal h = cc
+
 -- An answer with nothing after it.
 pub first_of_done : (a : Answer) → first_of a done ≡ a
 first_of_done (Ok _) = refl

@@ -1,5 +1,5 @@
 pub mod Laws
 pub mod Block
-pub mod Some
+pub mod Valid
 pub mod RoundTrip
 pub mod Widening

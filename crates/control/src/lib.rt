@@ -32,13 +32,6 @@ pub struct State {
     pub transients: TransientState,
 }
 
-// What a block stands for.
-#[derive(Clone, Copy)]
-pub enum Option<State> {
-    Valid(State),
-    Invalid,
-}
-
 // The DAC's displacement after a step of the cutoff code: a signed count of codes.
 fn displacement(step: i32) -> i16
     ensures { result ≡ displacement_of step }
@@ -351,17 +344,14 @@ impl State {
     }
 
     // The state of a valid block. Its length is looked at first, so that no field needs a test of its own.
-    pub fn decode(block: &[u8]) -> Option<State>
+    pub fn decode(block: &[u8]) -> Option<Self>
         ensures { result ≡ decode_of block.now }
     {
         if block.len() != State::BYTES {
             return None;
         }
         let state = State::fields(block);
-        if tidy(block) & TransientState::tidy(block) & state.is_valid() {
-            return Some(state);
-        }
-        None
+        (tidy(block) & TransientState::tidy(block) & state.is_valid()).then_some(state)
     }
 
     // A 24-byte block as one of 68 bytes: nothing charged, and the conductance of its volume. Where either is not as it should be the target stays.

@@ -129,7 +129,7 @@ unfolding check_script_of well_formed header_ok tally_of
 check_told s t pc po h = rw (← h, pc, po) (go (leb (event_count_of s) 65536 && eqb (u32_at s 4) 8 && eqb (length s) (8 + 12 * event_count_of s)) (all_readable (slices_of s)))
   where
     go : (a b : Bool)
-        → cond a (cond b (Ok (record { events = (event_count_of s); samples = (samples_of (events_of s)) })) (Err Script)) (Err Script)
-        ≡ cond (a && b) (Ok (record { events = (event_count_of s); samples = (samples_of (events_of s)) })) (Err Script)
+        → cond {A = Result Checked Refusal} a (cond b (Ok (record { events = (event_count_of s); samples = (samples_of (events_of s)) })) (Err Script)) (Err Script)
+        ≡ cond {A = Result Checked Refusal} (a && b) (Ok (record { events = (event_count_of s); samples = (samples_of (events_of s)) })) (Err Script)
     go true b = refl
     go false b = refl

@@ -9,9 +9,8 @@ use borrow.Author.Tests.{eqb-true}
 use lib.Dec.{leb, eqb}
 use lib.ListN.{length, get_or-replicate, get_or-eq_default}
 use lib.Ieee.{Float, nan, binary32, of_bits, to_bits, div, eq}
-use Rattle.answers.specs.declared.Answer.{Answer}
-use Rattle.answers.specs.declared.Answer.TheVariants.{Done, Domain, Argument, Sources}
-use Rattle.answers.specs.Answers.{is_done_of, unless_of}
+use Rattle.answers.specs.declared.Refusal.TheVariants.{Domain, Argument, Sources}
+use Rattle.answers.specs.Answers.{unless_of, Answer, done}
 use Rattle.answers.proofs.Laws.{done_is, first_done, unless_done}
 use Rattle.constants.specs.Values as K
 use Rattle.floats.specs.Arithmetic.{◌⊕◌, f32}
@@ -24,6 +23,7 @@ use Rattle.signals.specs.declared.RoutedSignals.{RoutedSignals}
 use Rattle.signals.specs.Signals.{with_bypass, is_pure_of, add_pure_voice_of, add_bypass_voice_of, attack_scale_of}
 use Rattle.signals.specs.Lent.{valid_voices_of, finite_numbers_of}
 use Rattle.signals.specs.Collecting.{signals_of, finite_signals_of, signal_bytes, judge_collect_of, collect_answer_of, collected_of}
+use Rattle.std.specs.Prelude.{Err, is_ok}
 
 -- ---- the table of scales
 
@@ -67,7 +67,7 @@ signals_put s x h = put_at-join s 0 _ _ 16 refl (le_of_eq (sym h)) ∙ put_at-wh
 -- ---- the call
 
 -- one that is not turned back is lent 32 bytes
-pub room_told : (routing mode : ℕ) (voices numbers : List ℕ) (room : ℕ) {judged : Answer} → judged ≡ judge_collect_of routing mode voices numbers room → is_done_of judged ≡ true → room ≡ 32
+pub room_told : (routing mode : ℕ) (voices numbers : List ℕ) (room : ℕ) {judged : Answer} → judged ≡ judge_collect_of routing mode voices numbers room → is_ok judged ≡ true → room ≡ 32
 unfolding judge_collect_of
 room_told routing mode voices numbers room {judged} e d =
     let nibbles = leb routing 15 && leb mode 15 in
@@ -75,16 +75,16 @@ room_told routing mode voices numbers room {judged} e d =
     eqb-true room 32 (both nibbles (eqb room 32) (unless_done (nibbles && eqb room 32) Argument refl p.0)).1
 
 module _ (routing mode : ℕ) (voices numbers sums : List ℕ) {judged : Answer} (e : judged ≡ judge_collect_of routing mode voices numbers (length sums)) where
-  pub done_told : is_done_of judged ≡ true → finite_signals_of (signals_of routing mode voices numbers) ≡ true
-      → (Done ≡ collect_answer_of routing mode voices numbers (length sums)) × (signal_bytes (signals_of routing mode voices numbers) ≡ collected_of routing mode voices numbers sums)
+  pub done_told : is_ok judged ≡ true → finite_signals_of (signals_of routing mode voices numbers) ≡ true
+      → (done ≡ collect_answer_of routing mode voices numbers (length sums)) × (signal_bytes (signals_of routing mode voices numbers) ≡ collected_of routing mode voices numbers sums)
   unfolding collect_answer_of collected_of
   done_told d f = rw (sym e, d, f) (refl, refl)
 
-  pub domain_told : is_done_of judged ≡ true → finite_signals_of (signals_of routing mode voices numbers) ≡ false
+  pub domain_told : is_ok judged ≡ true → finite_signals_of (signals_of routing mode voices numbers) ≡ false
       → (Domain ≡ collect_answer_of routing mode voices numbers (length sums)) × (sums ≡ collected_of routing mode voices numbers sums)
   unfolding collect_answer_of collected_of
   domain_told d f = rw (sym e, d, f) (refl, refl)
 
-  pub refused_told : is_done_of judged ≡ false → (judged ≡ collect_answer_of routing mode voices numbers (length sums)) × (sums ≡ collected_of routing mode voices numbers sums)
+  pub refused_told : is_ok judged ≡ false → (judged ≡ collect_answer_of routing mode voices numbers (length sums)) × (sums ≡ collected_of routing mode voices numbers sums)
   unfolding collect_answer_of collected_of
   refused_told d = rw (sym e, d) (refl, rw d refl)

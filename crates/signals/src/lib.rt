@@ -6,7 +6,7 @@ ghost use Rattle.signals.specs.Signals as S;
 ghost use Rattle.signals.specs.Lent.{voices_of, valid_voices_of, external_of, blends_of, finite_three_at, finite_numbers_of};
 ghost use Rattle.signals.specs.Collecting as C;
 
-use answers::Answer;
+use answers::{Answer, Refusal};
 use mixing::MixingTopology;
 use transients::SawBlends;
 use voice::VoiceSignal;
@@ -376,8 +376,8 @@ fn judge_collect(routing: u8, mode: u8, voices: &[u8], numbers: &[u8], room: usi
     let argument = (routing <= 15) & (mode <= 15) & (room == 32);
     let sources = valid_voices(voices) & finite_numbers(numbers);
     answers::first(
-        answers::unless(argument, Answer::Argument),
-        answers::unless(sources, Answer::Sources),
+        answers::unless(argument, Refusal::Argument),
+        answers::unless(sources, Refusal::Sources),
     )
 }
 
@@ -399,13 +399,13 @@ pub fn collect_lent(routing: u8, mode: u8, voices: &[u8], numbers: &[u8], sums: 
     ensures sums_after { sums.new ≡ C.collected_of routing mode voices.now numbers.now sums.old }
 {
     let judged = judge_collect(routing, mode, voices, numbers, sums.len());
-    if answers::is_done(judged) {
+    if judged.is_ok() {
         let signals = signals_of(routing, mode, voices, numbers);
         if signals.is_finite() {
             signals.put(sums);
-            return Answer::Done;
+            return Ok(());
         }
-        return Answer::Domain;
+        return Err(Refusal::Domain);
     }
     judged
 }

@@ -6,7 +6,7 @@ ghost use Rattle.response.specs.Levels.{volume_dac_conductance_code_of};
 ghost use Rattle.transients.specs.Transients as T;
 ghost use Rattle.transients.specs.Block as B;
 
-use answers::Answer;
+use answers::{Answer, Refusal};
 use constants::{
     SID_VOLUME_TRANSITION_FAST_CHARGE_FULL_SCALE, SID_VOLUME_TRANSITION_SLOW_CHARGE_FULL_SCALE,
 };
@@ -218,5 +218,5 @@ pub fn judge_decays(decays: &[u8]) -> Answer
         & factor_at(decays, 12)
         & factor_at(decays, 16);
     let tracking = factor_at(decays, 20);
-    answers::unless((decays.len() == 24) & charges & tracking, Answer::Decays)
+    answers::unless((decays.len() == 24) & charges & tracking, Refusal::Decays)
 }

@@ -2,12 +2,12 @@ use mathlib.Core.Path.{◌∙◌}
 use native.Mathlib.Omega.{arith}
 use Rattle.script.proofs.Laws.{event_part, event_past}
 use Rattle.script.proofs.event_at.Goals as goal
+use Rattle.script.proofs.event_at.Goals.{then-script-lt12-via-then-script-lt12, then-script-lt12-via-else-script-lt12+then-script-place}
 
-pub returns-then-place-script : goal.returns-then-place-script
-returns-then-place-script c = c.decode_event.ensures ∙ event_part c.args.script.now c.args.place
+pub returns-then-script-lt12 : goal.returns-then-script-lt12
+returns-then-script-lt12 c =
+    event_past c.args.script.now c.args.place
+    (elim c.then-script-lt12.branch [ then-script-lt12-via-then-script-lt12 w ↦ omega arith | then-script-lt12-via-else-script-lt12+then-script-place w ↦ omega arith ])
 
-pub returns-else-place-script : goal.returns-else-place-script
-returns-else-place-script c = event_past c.args.script.now c.args.place (omega arith)
-
-pub returns-else-script-ge12 : goal.returns-else-script-ge12
-returns-else-script-ge12 c = event_past c.args.script.now c.args.place (omega arith)
+pub returns : goal.returns
+returns c = c.decode_event.ensures ∙ event_part c.args.script.now c.args.place

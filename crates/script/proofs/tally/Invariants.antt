@@ -1,5 +1,5 @@
--- The loop's invariant: the whole tally is that of the slices that are left, after the samples so far.
-use Prim.Native.Nat.{◌-◌, ◌≤◌}
+-- The whole tally is that of the slices that are left, after the samples so far.
+use Prim.Native.Nat.{◌≤◌}
 use mathlib.Core.Path.{◌≡◌}
 use lib.ListN.{drop}
 use Rattle.script.specs.Script.{slices_in, tally_of}
@@ -8,9 +8,5 @@ use Rattle.script.proofs.tally.Given as goal
 
 abbrev pub invariant-loop-i : goal.invariant-loop-i
 invariant-loop-i l =
-    (l.i ≤ l.count)
-    × (l.samples ≤ l.i)
+    (l.samples ≤ l.i)
     × (tally_of l.count (slices_in l.count (drop 8 l.script)) ≡ tally_from l.count l.samples (slices_from l.script l.count l.i))
-
-abbrev pub decreases-loop-i : goal.decreases-loop-i
-decreases-loop-i l = l.count - l.i
