@@ -67,7 +67,7 @@ unfolding judge_decays_of R.factors_of
 judged_tame s h =
     let a : ℕ → Bool = factor_at s in
     let first = a 0 && a 4 && a 8 && a 12 in
-    let all = both (eqb (length s) 24 && (first && a 16)) (a 20) (unless_done _ Decays refl h) in
+    let all = both (eqb (length s) 24 && (first && a 16)) (a 20) (unless_done _ Decays h) in
     let p = both first (a 16) (both (eqb (length s) 24) (first && a 16) all.0).1 in
     let q = both (a 0 && a 4 && a 8) (a 12) p.0 in
     let r = both (a 0 && a 4) (a 8) q.0 in

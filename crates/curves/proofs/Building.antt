@@ -91,4 +91,4 @@ unfolding judge_build_of
 build_done bundle curves d =
     let lent = first_done (first_of (check_of bundle) (judge_length_of curves)) (judge_section_of bundle analogue_surface) d in
     let checked = first_done (check_of bundle) (judge_length_of curves) lent.0 in
-    (record { long = (check_done bundle checked.0).0; judged = lent.1 }, eqb-true _ _ (unless_done (eqb (length curves) curves_length) CurvesLength refl checked.1))
+    (record { long = (check_done bundle checked.0).0; judged = lent.1 }, eqb-true _ _ (unless_done (eqb (length curves) curves_length) CurvesLength checked.1))

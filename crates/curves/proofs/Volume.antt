@@ -45,6 +45,6 @@ module _ (bundle : List ℕ) (curve k : ℕ) (h : curve < 31) (l : k < 2049) whe
 
   -- One that is not usable is refused with its place by whatever reads it first.
   pub refused_when_read : usable_of (to_bits binary32 (curve_entry_of bundle curve k)) ≡ false → (later : List ℕ)
-      → judge_places_of Curves (build_curves_of bundle) (curve_place curve k ∷ later) ≡ Entry Curves (curve_place curve k)
+      → judge_places_of Curves (build_curves_of bundle) (curve_place curve k ∷ later) ≡ Err (Entry Curves (curve_place curve k))
   unfolding judge_places_of
   refused_when_read u later = rw (built_word, u)

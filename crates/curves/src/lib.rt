@@ -14,8 +14,7 @@ ghost use Rattle.curves.specs.Sampling.{summer_resting_places_of, summer_resting
 ghost use Rattle.curves.specs.Building.{curve_load_of, volume_entry_of, finished_of, curve_length, curves_length, build_curve_of, build_curves_of, judge_length_of, judge_build_of, build_of};
 ghost use Rattle.curves.specs.Inner.{read_row_of, table_row_of, UsableRow, blend_of, blend_rows_of, Buildable};
 
-use answers::{Answer, Buffer};
-use bundle::Read;
+use answers::{Answer, Buffer, Refusal};
 use response::TablePosition;
 
 // The curves: how many, the bytes of one, which has 2,049 entries of four, and the bytes of all.
@@ -100,20 +99,18 @@ fn sample_places(conductance: f32, input: f32) -> [u32; 4]
 }
 
 // Between two entries, each judged as it is read.
-fn read_between(buffer: Buffer, bytes: &[u8], lower: u32, upper: u32, fraction: f32) -> Result<f32, Refusal>
+fn read_between(
+    buffer: Buffer,
+    bytes: &[u8],
+    lower: u32,
+    upper: u32,
+    fraction: f32,
+) -> Result<f32, Refusal>
     ensures { result ≡ read_of (judge_places_of buffer bytes.now (lower ∷ upper ∷ [])) (interpolate_of (entry_at bytes.now lower) (entry_at bytes.now upper) fraction) }
 {
-    let first = bundle::read_entry(buffer, bytes, lower);
-    match first {
-        Err(answer) => Err(answer),
-        Ok(from) => {
-            let second = bundle::read_entry(buffer, bytes, upper);
-            match second {
-                Err(answer) => Err(answer),
-                Ok(to) => Ok(response::interpolate(from, to, fraction)),
-            }
-        }
-    }
+    let from = bundle::read_entry(buffer, bytes, lower)?;
+    let to = bundle::read_entry(buffer, bytes, upper)?;
+    Ok(response::interpolate(from, to, fraction))
 }
 
 // Refuses at the first unusable entry that `sample` reads.
@@ -156,17 +153,9 @@ pub fn read_sample(bundle: &[u8], conductance: f32, input: f32) -> Result<f32, R
 {
     let load = load_position(conductance);
     let at = input_position(input);
-    let lower = read_row(bundle, load.lower_base, at);
-    match lower {
-        Err(answer) => Err(answer),
-        Ok(from) => {
-            let upper = read_row(bundle, load.upper_base, at);
-            match upper {
-                Err(answer) => Err(answer),
-                Ok(to) => Ok(response::interpolate(from, to, load.fraction)),
-            }
-        }
-    }
+    let lower = read_row(bundle, load.lower_base, at)?;
+    let upper = read_row(bundle, load.upper_base, at)?;
+    Ok(response::interpolate(lower, upper, load.fraction))
 }
 
 // ---- a curve
@@ -324,8 +313,7 @@ fn table_row(bundle: &[u8], base: usize) -> &[u8]
     ensures { result.now ≡ table_row_of bundle.now base }
 {
     let from = (bundle::ANALOGUE_SURFACE_OFFSET as usize) + 4 * base;
-    let end = from + ROW_BYTES;
-    &bundle[from..end]
+    &bundle[from..from + ROW_BYTES]
 }
 
 // An entry of a row. It is usable, so its bits are no NaN's, and the loop over a row has no test in it.
@@ -350,10 +338,8 @@ fn blend_rows(row: &mut [u8], lower: &[u8], upper: &[u8], fraction: f32, curve: 
     requires { (length row.old ≡ curve_length) × UsableRow lower.now × UsableRow upper.now }
     ensures { row.new ≡ blend_rows_of lower.now upper.now fraction curve }
 {
-    let mut k = 0;
-    while k < ROW_ENTRIES {
+    for k in 0..ROW_ENTRIES {
         wire::put_f32(row, 4 * k, blend(lower, upper, fraction, curve, k));
-        k += 1;
     }
     wire::put_f32(
         row,
@@ -381,12 +367,9 @@ fn build_curves(bundle: &[u8], curves: &mut [u8])
     requires { Buildable bundle.now × (length curves.old ≡ curves_length) }
     ensures { curves.new ≡ build_curves_of bundle.now }
 {
-    let mut curve = 0;
-    while curve < CURVES {
+    for curve in 0..CURVES {
         let from = CURVE_BYTES * (curve as usize);
-        let end = from + CURVE_BYTES;
-        build_curve(bundle, &mut curves[from..end], curve);
-        curve += 1;
+        build_curve(bundle, &mut curves[from..from + CURVE_BYTES], curve);
     }
 }
 
@@ -401,11 +384,9 @@ pub fn judge_length(curves: &[u8]) -> Answer
 fn judge_build(bundle: &[u8], curves: &[u8]) -> Answer
     ensures { result ≡ judge_build_of bundle.now curves.now }
 {
-    let checked = answers::first(bundle::check(bundle), judge_length(curves));
-    if checked.is_ok() {
-        return bundle::judge_surface(bundle);
-    }
-    checked
+    bundle::check(bundle)?;
+    judge_length(curves)?;
+    bundle::judge_surface(bundle)
 }
 
 // Builds the 31 curves. A build that is refused writes nothing.

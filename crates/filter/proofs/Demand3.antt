@@ -61,7 +61,7 @@ module _ (bundle : List ℕ) (s : State) (judged : judge_controls_of bundle s �
 
   all_finite : finite_controls_of (controls_of bundle s) ≡ true
   unfolding judge_domain_of
-  all_finite = unless_done (finite_controls_of (controls_of bundle s)) Domain refl parts.1
+  all_finite = unless_done (finite_controls_of (controls_of bundle s)) Domain parts.1
 
   filter_usable : judge_filter_of bundle (effective_cutoff_of s) s.registers.resonance ≡ done
   unfolding judge_entries_of
@@ -81,7 +81,7 @@ pub change_parts : (bundle : List ℕ) (t : State) → judge_change_of bundle t 
 unfolding judge_change_of
 change_parts bundle t h =
     let p = first_done (judge_controls_of bundle t) (unless_of (finite_transients_of t.transients) Domain) h in
-    (p.0, unless_done (finite_transients_of t.transients) Domain refl p.1)
+    (p.0, unless_done (finite_transients_of t.transients) Domain p.1)
 
 -- where the transients are finite only the controls are judged
 pub change_quiet : (bundle : List ℕ) (t : State) → finite_transients_of t.transients ≡ true → judge_controls_of bundle t ≡ judge_change_of bundle t
@@ -329,7 +329,7 @@ module _ (l : Lent) (s : State) (started : plain_start l s ≡ done) where
       let p = first_done (judge_lent_of l) _ started in
       let q = first_done (unless_of (valid_of s) Argument) _ p.1 in
       let r = first_done (judge_decays_of l.decays) (judge_controls_of l.bundle s) q.1 in
-      record { ready = p.0; valid = unless_done (valid_of s) Argument refl q.0; decayed = r.0; judged = r.1 }
+      record { ready = p.0; valid = unless_done (valid_of s) Argument q.0; decayed = r.0; judged = r.1 }
 
   pub start_core : (core_start_of l s).core ≡ core_of l s
   start_core = rw start_parts.judged refl

@@ -88,7 +88,7 @@ sample_told l block sum energy = go (decode_of block)
     known s done =
         let asked = (first_done (judge_lent_of l) (sample_refusal_of l s sum energy) (done_is _ done)).1 in
         let input = (first_done (judge_input_of sum energy) _ asked).0 in
-        (both (finite sum) (finite energy) (unless_done (finite sum && finite energy) InputNotFinite refl input)).0
+        (both (finite sum) (finite energy) (unless_done (finite sum && finite energy) InputNotFinite input)).0
 
     settled : (s : State) (d : Bool) → is_ok (first_of (judge_lent_of l) (sample_refusal_of l s sum energy)) ≡ d → Placed (cond d (state_point_of l s sum) no_point)
     settled s true h = state_placed s sum (known s h) l

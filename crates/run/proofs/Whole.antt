@@ -73,10 +73,10 @@ module _ (script : List ℕ) (room : ℕ) (fine : judge_script_of script room �
   both_done = first_done (unless_of (well_formed script) Script) (unless_of (leb (16 * samples_of (events_of script)) room) OutputLength) fine
 
   formed : well_formed script ≡ true
-  formed = unless_done (well_formed script) Script refl both_done.0
+  formed = unless_done (well_formed script) Script both_done.0
 
   fitting : 16 * samples_of (events_of script) ≤ room
-  fitting = leb-true (16 * samples_of (events_of script)) room (unless_done (leb (16 * samples_of (events_of script)) room) OutputLength refl both_done.1)
+  fitting = leb-true (16 * samples_of (events_of script)) room (unless_done (leb (16 * samples_of (events_of script)) room) OutputLength both_done.1)
 
 -- ---- the start, from a valid state
 
@@ -136,7 +136,7 @@ module _ (lent : Lent) (block script : List ℕ) (room : ℕ) where
     roomy = fitting script room parts.3
 
     pub block_valid : decode_of block ≡ Some (fields_of block)
-    block_valid = go (decode_of block) refl (unless_done (is_valid (decode_of block)) Argument refl parts.1)
+    block_valid = go (decode_of block) refl (unless_done (is_valid (decode_of block)) Argument parts.1)
       where
         go : (x : Option State) → decode_of block ≡ x → is_valid x ≡ true → decode_of block ≡ Some (fields_of block)
         go (Some s) e h = e ∙ ap Some (sym (decoded block s e).fields)

@@ -72,7 +72,7 @@ unfolding judge_collect_of
 room_told routing mode voices numbers room {judged} e d =
     let nibbles = leb routing 15 && leb mode 15 in
     let p = first_done (unless_of (nibbles && eqb room 32) Argument) (unless_of (valid_voices_of voices && finite_numbers_of numbers) Sources) (sym e ∙ done_is judged d) in
-    eqb-true room 32 (both nibbles (eqb room 32) (unless_done (nibbles && eqb room 32) Argument refl p.0)).1
+    eqb-true room 32 (both nibbles (eqb room 32) (unless_done (nibbles && eqb room 32) Argument p.0)).1
 
 module _ (routing mode : ℕ) (voices numbers sums : List ℕ) {judged : Answer} (e : judged ≡ judge_collect_of routing mode voices numbers (length sums)) where
   pub done_told : is_ok judged ≡ true → finite_signals_of (signals_of routing mode voices numbers) ≡ true

@@ -116,7 +116,7 @@ module _ (l : Lent) (levels : List ℕ) (s : State) (started : turn_start l leve
       let q = first_done (unless_of (valid_of s) Argument) _ p.1 in
       let r = first_done (judge_decays_of l.decays) _ q.1 in
       let t = first_done (judge_levels_of levels) (judge_controls_of l.bundle s) r.1 in
-      record { ready = p.0; valid = unless_done (valid_of s) Argument refl q.0; decayed = r.0; levelled = t.0; judged = t.1 }
+      record { ready = p.0; valid = unless_done (valid_of s) Argument q.0; decayed = r.0; levelled = t.0; judged = t.1 }
 
   turn_start_core : (turn_start_of l levels s).core ≡ core_of l s
   turn_start_core = rw turn_start_parts.judged refl

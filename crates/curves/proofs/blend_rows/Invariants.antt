@@ -13,7 +13,4 @@ bytes lower upper fraction curve k = float_bytes (blend_of lower upper fraction 
 
 abbrev pub invariant-loop-k : goal.invariant-loop-k
 invariant-loop-k l =
-    (l.k ≤ 2048) × (length l.row ≡ length l.initial.row) × (l.row ≡ put_at l.initial.row 0 (rows (bytes l.lower l.upper l.fraction l.curve) l.k))
-
-abbrev pub decreases-loop-k : goal.decreases-loop-k
-decreases-loop-k l = 2048 - l.k
+    (length l.row ≡ length l.initial.row) × (l.row ≡ put_at l.initial.row 0 (rows (bytes l.lower l.upper l.fraction l.curve) l.k))

@@ -8,12 +8,12 @@ pub build_curves-requires : goal.build_curves-requires
 build_curves-requires c =
     let a = c.before.args in
     build_done a.bundle.now a.curves.now
-    (sym c.judge_build-judged.ensures ∙ done_is c.judge_build-judged.result (sym c.is_done.ensures ∙ c.if-is_done.true))
+    (sym c.judge_build-judged.ensures ∙ done_is c.judge_build-judged.result (sym c.is_ok.ensures.value ∙ c.if-is_ok.true))
 
-pub returns-then-is_done : goal.returns-then-is_done
+pub returns-then-is_ok : goal.returns-then-is_ok
 unfolding build_of
-returns-then-is_done c = record { value = c.judge_build-judged.ensures; curves_after = simp (← c.judge_build-judged.ensures, ← c.is_done.ensures, c.if-is_done.true, c.build_curves.ensures) }
+returns-then-is_ok c = record { value = c.judge_build-judged.ensures; curves_after = simp (← c.judge_build-judged.ensures, ← c.is_ok.ensures.value, c.if-is_ok.true, c.build_curves.ensures) }
 
-pub returns-else-is_done : goal.returns-else-is_done
+pub returns-else-is_ok : goal.returns-else-is_ok
 unfolding build_of
-returns-else-is_done c = record { value = c.judge_build-judged.ensures; curves_after = simp (← c.judge_build-judged.ensures, ← c.is_done.ensures, c.if-is_done.false) }
+returns-else-is_ok c = record { value = c.judge_build-judged.ensures; curves_after = simp (← c.judge_build-judged.ensures, ← c.is_ok.ensures.value, c.if-is_ok.false) }

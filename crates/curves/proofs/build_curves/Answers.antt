@@ -13,7 +13,7 @@ use Rattle.curves.specs.Building.{curve_length, build_curve_of, build_curves_of}
 use Rattle.curves.proofs.build_curves.Goals as goal
 
 pub loop-curve-init : goal.loop-curve-init
-loop-curve-init c = let a = c.args in (search rules, refl, front_none (build_curve_of a.bundle.now) curve_length (length_curve a.bundle.now) a.curves.now)
+loop-curve-init c = let a = c.args in (refl, front_none (build_curve_of a.bundle.now) curve_length (length_curve a.bundle.now) a.curves.now)
 
 pub build_curve-requires : goal.build_curve-requires
 build_curve-requires c =
@@ -30,9 +30,9 @@ loop-curve-preserved c =
     let told : put_mid from (from + curve_length - from) c.loop-curve.curves c.build_curve.new.row ≡ put_at a.curves.now 0 (rows r (k + 1)) =
     ap (put_mid from (from + curve_length - from) c.loop-curve.curves) c.build_curve.ensures
     ∙ put_part from curve_length c.loop-curve.curves (r k) (length_curve a.bundle.now k) (omega (arith, c.requires.1))
-    ∙ ap (λ (l : List ℕ). put_at l from (r k)) c.loop-curve.invariant.2
+    ∙ ap (λ (l : List ℕ). put_at l from (r k)) c.loop-curve.invariant.1
     ∙ front_more r curve_length (length_curve a.bundle.now) a.curves.now k (omega (arith, c.requires.1)) in
-    (search rules, ap length told ∙ length-put_at a.curves.now 0 (rows r (k + 1)), told)
+    (ap length told ∙ length-put_at a.curves.now 0 (rows r (k + 1)), told)
 
 pub returns : goal.returns
 unfolding build_curves_of
@@ -40,4 +40,4 @@ returns c =
     let a = c.args in
     let r = build_curve_of a.bundle.now in
     let end : c.loop-curve.curve ≡ 31 = omega arith in
-    c.loop-curve.invariant.2 ∙ ap (λ (k : ℕ). put_at a.curves.now 0 (rows r k)) end ∙ front_all r curve_length (length_curve a.bundle.now) a.curves.now 31 c.requires.1
+    c.loop-curve.invariant.1 ∙ ap (λ (k : ℕ). put_at a.curves.now 0 (rows r k)) end ∙ front_all r curve_length (length_curve a.bundle.now) a.curves.now 31 c.requires.1

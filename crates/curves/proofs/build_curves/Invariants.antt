@@ -8,7 +8,4 @@ use Rattle.curves.proofs.build_curves.Given as goal
 
 abbrev pub invariant-loop-curve : goal.invariant-loop-curve
 invariant-loop-curve l =
-    (l.curve ≤ 31) × (length l.curves ≡ length l.initial.curves) × (l.curves ≡ put_at l.initial.curves 0 (rows (build_curve_of l.bundle) l.curve))
-
-abbrev pub decreases-loop-curve : goal.decreases-loop-curve
-decreases-loop-curve l = 31 - l.curve
+    (length l.curves ≡ length l.initial.curves) × (l.curves ≡ put_at l.initial.curves 0 (rows (build_curve_of l.bundle) l.curve))
