@@ -27,11 +27,11 @@ use Rattle.controls.specs.declared.OutputControls.{OutputControls}
 use Rattle.controls.specs.declared.ControlCache.{ControlCache}
 use Rattle.controls.specs.Controls.{integrator_gain_of, refresh_filter_controls_of, refresh_mode_output_gain_of, refresh_register_output_state_of, controls_of}
 use Rattle.controls.specs.Judging.{filter_places_of, judge_filter_of, all_finite, finite_filter_of, finite_controls_of, judge_entries_of, judge_domain_of, judge_controls_of}
-use Rattle.refresh.specs.declared.Judged.{Judged}
-use Rattle.refresh.specs.declared.Refreshed.{Refreshed}
-use Rattle.refresh.specs.Refresh.{judge_gain_of, gain_answer_of, gain_value_of, state_gain_of, judged_of, no_controls, refresh_of}
+use Rattle.answers.specs.declared.Refusal.{Refusal}
+use Rattle.bundle.proofs.Reading.{read_value, read_refused}
+use Rattle.refresh.specs.Refresh.{judge_gain_of, read_mode_output_gain_of, judged_of, refresh_of}
 use Rattle.finite.proofs.Finite.{high_coupling_finite, band_coupling_finite, position_finite, feedback_finite, modulation_finite, lift_finite}
-use Rattle.std.specs.Prelude.{is_ok, Ok, Err}
+use Rattle.std.specs.Prelude.{Result, Ok, Err}
 
 at_most_finite : (k : ℕ) (x : Float) → at_most k x ≡ true → finite x ≡ true
 at_most_finite k nan e = e
@@ -101,58 +101,37 @@ pub judged_by_parts : (bundle : List ℕ) (s : State) → s.registers.resonance 
     → judge_controls_of bundle s ≡ first_of (judge_filter_of bundle (effective_cutoff_of s) s.registers.resonance) (judge_gain_of bundle s.registers (effective_cutoff_of s))
 unfolding judge_controls_of judge_entries_of judge_domain_of judge_gain_of finite_controls_of controls_of
 judged_by_parts bundle s r =
-    let filter = judge_filter_of bundle (effective_cutoff_of s) s.registers.resonance in
-    go filter refl (is_ok filter) refl
+    go (judge_filter_of bundle (effective_cutoff_of s) s.registers.resonance) refl
   where
-    go : (filter : Answer) → judge_filter_of bundle (effective_cutoff_of s) s.registers.resonance ≡ filter → (d : Bool) → is_ok filter ≡ d
+    go : (filter : Answer) → judge_filter_of bundle (effective_cutoff_of s) s.registers.resonance ≡ filter
         → judge_controls_of bundle s ≡ first_of filter (judge_gain_of bundle s.registers (effective_cutoff_of s))
-    go filter is true h =
-        let done : judge_filter_of bundle (effective_cutoff_of s) s.registers.resonance ≡ done = is ∙ done_is filter h in
-        simp (done, h, filter_finite bundle (effective_cutoff_of s) s.registers.resonance (effective_small s) r done)
-    go filter is false h = simp (is, h, h)
+    go (Ok _) is = simp (is, filter_finite bundle (effective_cutoff_of s) s.registers.resonance (effective_small s) r is)
+    go (Err refusal) is = simp is
 
 -- of a state its registers alone are read
 pub judged_by_registers : (bundle : List ℕ) (s : State) → judged_of bundle (of_registers s.registers) ≡ judged_of bundle s
 unfolding judge_controls_of judge_entries_of judge_domain_of controls_of
 judged_by_registers bundle s = refl
 
--- the answer beside a gain that was read
-pub gain_answer : (judged : Answer) (x : Float) → gain_answer_of (read_of judged x) ≡ judged
-unfolding read_of
-gain_answer judged x = go (is_ok judged) refl
-  where
-    go : (d : Bool) → is_ok judged ≡ d → gain_answer_of (cond d (Ok x) (Err judged)) ≡ judged
-    go true h = sym (done_is judged h)
-    go false h = refl
+-- ---- what `?` hands on
 
--- and the gain, where it is not refused
-pub gain_value : (judged : Answer) (x : Float) → is_ok judged ≡ true → gain_value_of (read_of judged x) ≡ x
-unfolding read_of
-gain_value judged x h = rw h refl
+module _ (bundle : List ℕ) (s : State) (small : s.registers.resonance < 256) where
+  abbrev filter : Answer
+  filter = judge_filter_of bundle (effective_cutoff_of s) s.registers.resonance
 
--- where the controls of a state are not refused, its gain is that of its controls
-pub state_gain : (bundle : List ℕ) (s : State) → s.registers.resonance < 256 → is_ok (judge_controls_of bundle s) ≡ true
-    → state_gain_of bundle s ≡ refresh_mode_output_gain_of bundle s.registers (effective_cutoff_of s)
-state_gain bundle s r h =
-    let filter = judge_filter_of bundle (effective_cutoff_of s) s.registers.resonance in
-    let gain = judge_gain_of bundle s.registers (effective_cutoff_of s) in
-    let done = (first_done filter gain (sym (judged_by_parts bundle s r) ∙ done_is (judge_controls_of bundle s) h)).1 in
-    gain_value gain (refresh_mode_output_gain_of bundle s.registers (effective_cutoff_of s)) (ap is_ok done)
+  pub filter_refused : {r : Refusal} → filter ≡ Err r → Err r ≡ judged_of bundle s
+  unfolding read_of
+  filter_refused h = rw (judged_by_parts bundle s small, h) refl
 
--- ---- the controls as `refresh` puts them together
+  pub gain_read : filter ≡ done → read_mode_output_gain_of bundle s.registers (effective_cutoff_of s) ≡ judged_of bundle s
+  gain_read h = rw (judged_by_parts bundle s small, h) refl
 
 module _ (bundle : List ℕ) (s : State) where
-  abbrev done_here : {j : Judged} → j ≡ judged_of bundle s → {d v : Bool} → d ≡ is_ok j.answer → d ≡ v → is_ok (judge_controls_of bundle s) ≡ v
-  done_here is is_d h = ap (λ (j : Judged). is_ok j.answer) (sym is) ∙ sym is_d ∙ h
+  pub refused : {r : Refusal} → judged_of bundle s ≡ Err r → Err r ≡ refresh_of bundle s
+  refused h = rw (read_refused _ _ (sym h)) refl
 
-  pub refreshed : s.registers.resonance < 256 → {j : Judged} → j ≡ judged_of bundle s → {d : Bool} → d ≡ is_ok j.answer → d ≡ true
-      → {f : FilterControls} → f ≡ refresh_filter_controls_of bundle (effective_cutoff_of s) s.registers.resonance → {o : OutputControls} → o ≡ refresh_register_output_state_of s.registers
-      → ◌≡◌ {A = Refreshed} (record { answer = j.answer; controls = record { filter = f; mode_output_gain = j.gain; output = o } }) (refresh_of bundle s)
+  pub refreshed : {gain : Float} → judged_of bundle s ≡ Ok gain → {f : FilterControls} → f ≡ refresh_filter_controls_of bundle (effective_cutoff_of s) s.registers.resonance
+      → {o : OutputControls} → o ≡ refresh_register_output_state_of s.registers
+      → ◌≡◌ {A = Result ControlCache Refusal} (Ok (record { filter = f; mode_output_gain = gain; output = o })) (refresh_of bundle s)
   unfolding controls_of
-  refreshed r is is_d t f o =
-      let done = done_here is is_d t in
-      rw (is, f, o, done, state_gain bundle s r done) refl
-
-  pub refused : {j : Judged} → j ≡ judged_of bundle s → {d : Bool} → d ≡ is_ok j.answer → d ≡ false → {c : ControlCache} → c ≡ no_controls
-      → ◌≡◌ {A = Refreshed} (record { answer = j.answer; controls = c }) (refresh_of bundle s)
-  refused is is_d t c = rw (is, c, done_here is is_d t) refl
+  refreshed h f o = let read = read_value _ _ (sym h) in rw (read.0, read.1, f, o) refl

@@ -21,9 +21,8 @@ use Rattle.controls.specs.Controls.{refresh_filter_controls_of, refresh_mode_out
 use Rattle.controls.specs.Judging.{judge_if_of, judge_mode_of, finite_output_of, judge_controls_of}
 use Rattle.refresh.specs.declared.CoreControls.{CoreControls}
 use Rattle.refresh.specs.declared.CoreRefreshed.{CoreRefreshed}
-use Rattle.refresh.specs.declared.Judged.{Judged}
-use Rattle.refresh.specs.declared.Refreshed.{Refreshed}
 use Rattle.answers.specs.declared.Refusal.{Refusal}
+use Rattle.std.specs.Result.{result_and}
 
 -- ---- `refresh_filter_controls`
 
@@ -75,60 +74,16 @@ judge_gain_of bundle r effective =
 abbrev pub read_mode_output_gain_of : List ℕ → FilterRegisters → ℕ → Result Float Refusal
 read_mode_output_gain_of bundle r effective = read_of (judge_gain_of bundle r effective) (refresh_mode_output_gain_of bundle r effective)
 
--- a gain that was read, and 0 where it was refused; and its refusal
-abbrev pub gain_value_of : Result Float Refusal → Float
-gain_value_of (Ok x) = x
-gain_value_of (Err answer) = f32 0
-
-abbrev pub gain_answer_of : Result Float Refusal → Answer
-gain_answer_of (Ok x) = done
-gain_answer_of (Err answer) = answer
-
 -- ---- all three
 
 -- the gain of a state
 abbrev pub state_gain_of : List ℕ → State → Float
-state_gain_of bundle s = gain_value_of (read_mode_output_gain_of bundle s.registers (effective_cutoff_of s))
+state_gain_of bundle s = refresh_mode_output_gain_of bundle s.registers (effective_cutoff_of s)
 
--- what the controls of a state refuse, and its gain
-abbrev pub judged_of : List ℕ → State → Judged
-judged_of bundle s = record { answer = judge_controls_of bundle s; gain = state_gain_of bundle s }
+-- what the controls of a state refuse, or its gain
+abbrev pub judged_of : List ℕ → State → Result Float Refusal
+judged_of bundle s = read_of (judge_controls_of bundle s) (state_gain_of bundle s)
 
-abbrev pub no_controls : ControlCache
-no_controls =
-    let zeros = replicate 16 (f32 0) in
-    record {
-      filter =
-          record {
-            effective_cutoff_index = 0;
-            integrator_gain = zeros;
-            input_drive = zeros;
-            feedback_drive = zeros;
-            damping = f32 0;
-            source_gain_modulation = f32 0;
-            high_pass_low_coupling = f32 0;
-            band_pass_low_coupling = f32 0;
-            resonance_position = f32 0;
-            resonance_index = 0;
-            resonance_feedback_scale = f32 0;
-            source_modulation_resonance_scale = f32 0;
-            resonance_output_gain = f32 0;
-          };
-      mode_output_gain = f32 0;
-      output =
-          record {
-            filter_common_mode = f32 0;
-            volume_fraction = f32 0;
-            two_voice_volume_gain_offset = f32 0;
-            combined_common_mode_gain = f32 0;
-            pure_bypass_common_mode_gain = f32 0;
-            scaled_filter_common_mode = f32 0;
-            frozen_dac_bias_mode = false;
-          };
-    }
-
--- the controls of a state; where they are refused there are none
-abbrev pub refresh_of : List ℕ → State → Refreshed
-refresh_of bundle s =
-    let judged = judge_controls_of bundle s in
-    record { answer = judged; controls = cond (is_ok judged) (controls_of bundle s) no_controls }
+-- what they refuse, or the controls
+abbrev pub refresh_of : List ℕ → State → Result ControlCache Refusal
+refresh_of bundle s = result_and (judge_controls_of bundle s) (Ok (controls_of bundle s))

@@ -8,10 +8,9 @@ ghost use Rattle.controls.specs.Judging.{judge_filter_of};
 ghost use Rattle.control.specs.Registers.{of_registers};
 ghost use Rattle.refresh.specs.Refresh as R;
 
-use answers::{Answer, Buffer};
-use bundle::Read;
+use answers::{Answer, Buffer, Refusal};
 use control::{FilterRegisters, State};
-use controls::{ControlCache, FilterControls, OutputControls};
+use controls::{ControlCache, FilterControls};
 
 // The numbers of refresh_filter_controls that a sample reads beside the tables of the operating bins.
 #[repr(C)]
@@ -31,20 +30,6 @@ pub struct CoreControls {
 pub struct CoreRefreshed {
     pub integrator_gain: [f32; 16],
     pub core: CoreControls,
-}
-
-// What the controls of a state refuse, and its mode's gain.
-#[derive(Clone, Copy)]
-pub struct Judged {
-    pub answer: Answer,
-    pub gain: f32,
-}
-
-// A state's controls, and whether working them out is refused.
-#[derive(Clone, Copy)]
-pub struct Refreshed {
-    pub answer: Answer,
-    pub controls: ControlCache,
 }
 
 // ---- refresh_filter_controls
@@ -191,30 +176,27 @@ pub fn judge_filter(bundle: &[u8], cutoff: u16, resonance: u8) -> Answer
 fn read_loading(bundle: &[u8], m: u8, effective: u16) -> Result<f32, Refusal>
     ensures { result ≡ R.read_loading_of bundle.now m effective }
 {
-    if m == 4 {
-        return bundle::read_entry(
-            Buffer::Bundle,
-            bundle,
-            bundle::highpass_loading_place(effective),
-        );
+    if m != 4 {
+        return Ok(1.0);
     }
-    Ok(1.0)
+    bundle::read_entry(
+        Buffer::Bundle,
+        bundle,
+        bundle::highpass_loading_place(effective),
+    )
 }
 
 // The loading curves at a cutoff, which is the written one, judged as they are read.
 fn read_directional(bundle: &[u8], m: u8, cutoff: u16, displacement: i16) -> Result<f32, Refusal>
     ensures { result ≡ R.read_directional_of bundle.now m cutoff displacement }
 {
-    if response::is_single_mode(m) {
-        let row = response::mode_index(m);
-        let place = bundle::directional_power_place(row, cutoff, displacement);
-        let power = bundle::read_entry(Buffer::Bundle, bundle, place);
-        return match power {
-            Err(answer) => Err(answer),
-            Ok(x) => Ok(response::symmetric_gain(row as usize, cutoff) * x),
-        };
+    if !response::is_single_mode(m) {
+        return Ok(1.0);
     }
-    Ok(1.0)
+    let row = response::mode_index(m);
+    let place = bundle::directional_power_place(row, cutoff, displacement);
+    let power = bundle::read_entry(Buffer::Bundle, bundle, place)?;
+    Ok(response::symmetric_gain(row as usize, cutoff) * power)
 }
 
 // Both, and the gain of the mode's output at the effective cutoff.
@@ -222,138 +204,52 @@ fn read_gain(bundle: &[u8], r: FilterRegisters, effective: u16) -> Result<f32, R
     ensures { result ≡ R.read_gain_of bundle.now r effective }
 {
     let m = r.mode % 8;
-    let loading = read_loading(bundle, m, effective);
-    match loading {
-        Err(answer) => Err(answer),
-        Ok(x) => {
-            let displacement = r.cutoff_dac_displacement_codes;
-            let directional = read_directional(bundle, m, r.cutoff, displacement);
-            match directional {
-                Err(answer) => Err(answer),
-                Ok(y) => Ok(
-                    response::filter_mode_output_gain(r.mode, r.resonance, effective, x) * y,
-                ),
-            }
-        }
-    }
+    let loading = read_loading(bundle, m, effective)?;
+    let directional = read_directional(bundle, m, r.cutoff, r.cutoff_dac_displacement_codes)?;
+    Ok(response::filter_mode_output_gain(r.mode, r.resonance, effective, loading) * directional)
 }
 
 // `refresh_mode_output_gain`: the gain, or the refusal of an entry or of a gain that is not finite. The output's numbers are finite at
 // every write (`output-finite`).
-pub fn read_mode_output_gain(bundle: &[u8], r: FilterRegisters, effective: u16) -> Result<f32, Refusal>
+pub fn read_mode_output_gain(
+    bundle: &[u8],
+    r: FilterRegisters,
+    effective: u16,
+) -> Result<f32, Refusal>
     ensures { result ≡ R.read_mode_output_gain_of bundle.now r effective }
 {
-    let read = read_gain(bundle, r, effective);
-    match read {
-        Err(answer) => Err(answer),
-        Ok(gain) => {
-            if floats::is_finite(gain) {
-                return Ok(gain);
-            }
-            Err(Refusal::Domain)
-        }
-    }
-}
-
-// A gain that was read, and 0 where it was refused; and its refusal.
-pub fn gain_value(gain: Result<f32, Refusal>) -> f32
-    ensures { result ≡ R.gain_value_of gain }
-{
-    match gain {
-        Ok(x) => x,
-        Err(_answer) => 0.0,
-    }
-}
-
-pub fn gain_answer(gain: Result<f32, Refusal>) -> Answer
-    ensures { result ≡ R.gain_answer_of gain }
-{
-    match gain {
-        Ok(_x) => Ok(()),
-        Err(answer) => answer,
-    }
+    let gain = read_gain(bundle, r, effective)?;
+    answers::unless(floats::is_finite(gain), Refusal::Domain)?;
+    Ok(gain)
 }
 
 // ---- all three
 
-// What the controls of a state refuse: 3 of the filter's entries, then 3 and 6 of the gain; and the gain.
-pub fn judge_controls(bundle: &[u8], state: State) -> Judged
+// The gain of a state's mode, or what its controls refuse: 3 of the filter's entries, then 3 and 6 of the gain.
+pub fn judge_controls(bundle: &[u8], state: State) -> Result<f32, Refusal>
     ensures { result ≡ R.judged_of bundle.now state }
 {
-    let registers = state.registers;
-    judge_registers(bundle, registers)
+    judge_registers(bundle, state.registers)
 }
 
 // The same by the registers, which are all of a state that its controls are worked out from.
-pub fn judge_registers(bundle: &[u8], registers: FilterRegisters) -> Judged
+pub fn judge_registers(bundle: &[u8], registers: FilterRegisters) -> Result<f32, Refusal>
     ensures { result ≡ R.judged_of bundle.now (of_registers registers) }
 {
-    let resonance = registers.resonance;
     let effective = registers.effective_cutoff();
-    let filter = judge_filter(bundle, effective, resonance);
-    let gain = read_mode_output_gain(bundle, registers, effective);
-    Judged {
-        answer: answers::first(filter, gain_answer(gain)),
-        gain: gain_value(gain),
-    }
+    judge_filter(bundle, effective, registers.resonance)?;
+    read_mode_output_gain(bundle, registers, effective)
 }
 
-// No controls: what a refused refresh has.
-fn no_controls() -> ControlCache
-    ensures { result ≡ R.no_controls }
-{
-    ControlCache {
-        filter: FilterControls {
-            effective_cutoff_index: 0,
-            integrator_gain: [0.0; 16],
-            input_drive: [0.0; 16],
-            feedback_drive: [0.0; 16],
-            damping: 0.0,
-            source_gain_modulation: 0.0,
-            high_pass_low_coupling: 0.0,
-            band_pass_low_coupling: 0.0,
-            resonance_position: 0.0,
-            resonance_index: 0,
-            resonance_feedback_scale: 0.0,
-            source_modulation_resonance_scale: 0.0,
-            resonance_output_gain: 0.0,
-        },
-        mode_output_gain: 0.0,
-        output: OutputControls {
-            filter_common_mode: 0.0,
-            volume_fraction: 0.0,
-            two_voice_volume_gain_offset: 0.0,
-            combined_common_mode_gain: 0.0,
-            pure_bypass_common_mode_gain: 0.0,
-            scaled_filter_common_mode: 0.0,
-            frozen_dac_bias_mode: false,
-        },
-    }
-}
-
-// The controls of a state, worked out afresh; zeros where they are refused.
-pub fn refresh(bundle: &[u8], state: State) -> Refreshed
+// The controls of a state, worked out afresh.
+pub fn refresh(bundle: &[u8], state: State) -> Result<ControlCache, Refusal>
     ensures { result ≡ R.refresh_of bundle.now state }
 {
-    let judged = judge_controls(bundle, state);
-    let answer = judged.answer;
-    if answer.is_ok() {
-        let registers = state.registers;
-        let resonance = registers.resonance;
-        let cutoff = state.effective_cutoff();
-        let filter = refresh_filter_controls(bundle, cutoff, resonance);
-        let output = controls::refresh_register_output_state(registers);
-        return Refreshed {
-            answer,
-            controls: ControlCache {
-                filter,
-                mode_output_gain: judged.gain,
-                output,
-            },
-        };
-    }
-    Refreshed {
-        answer,
-        controls: no_controls(),
-    }
+    let mode_output_gain = judge_controls(bundle, state)?;
+    let registers = state.registers;
+    Ok(ControlCache {
+        filter: refresh_filter_controls(bundle, registers.effective_cutoff(), registers.resonance),
+        mode_output_gain,
+        output: controls::refresh_register_output_state(registers),
+    })
 }

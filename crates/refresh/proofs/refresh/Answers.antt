@@ -1,13 +1,13 @@
-use native.Mathlib.Omega.{arith}
+use mathlib.Core.Path.{sym, ◌∙◌}
+use Rattle.answers.proofs.Laws.{handed_on}
 use Rattle.refresh.proofs.Parts.{refreshed, refused}
 use Rattle.refresh.proofs.refresh.Goals as goal
 
-pub returns-then-is_done : goal.returns-then-is_done
-returns-then-is_done c =
-    let e = c.effective_cutoff-cutoff.ensures in
-    refreshed _ _ (omega (arith, c.well_formed.1.0)) c.judge_controls-judged.ensures
-    c.is_done.ensures c.if-is_done.true
-    (simp e at c.refresh_filter_controls-filter.ensures) c.refresh_register_output_state-output.ensures
+pub returns-in_err-mode_output_gain : goal.returns-in_err-mode_output_gain
+returns-in_err-mode_output_gain c =
+    handed_on _ c.from_residual.ensures ∙ refused _ _ (sym c.judge_controls.ensures ∙ c.in_err-mode_output_gain.was)
 
 pub returns : goal.returns
-returns c = refused _ _ c.judge_controls-judged.ensures c.is_done.ensures c.if-is_done.false c.no_controls.ensures
+returns c =
+    refreshed _ _ (sym c.judge_controls.ensures ∙ c.in_ok-mode_output_gain.was)
+    (simp c.effective_cutoff.ensures at c.refresh_filter_controls.ensures) c.refresh_register_output_state.ensures
