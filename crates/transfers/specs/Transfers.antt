@@ -33,7 +33,7 @@ mixer_point_of curves slot t sum = cond (leb t.mixer_input_count 7) (curve_point
 
 -- and it is a 10.
 unfoldable pub judge_mixer_of : List ℕ → ℕ → MixingTopology → Float → Answer
-judge_mixer_of curves slot t sum = cond (leb t.mixer_input_count 7) (judge_places_of Curves curves (sample_curve_places_of slot (mixer_average_of t sum))) Argument
+judge_mixer_of curves slot t sum = cond (leb t.mixer_input_count 7) (judge_places_of Curves curves (sample_curve_places_of slot (mixer_average_of t sum))) (Err Argument)
 
 -- The output, or the first refusal of these.
 unfoldable pub read_mixer_of : List ℕ → ℕ → MixingTopology → Float → Result Float Refusal

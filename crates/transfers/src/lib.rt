@@ -5,8 +5,7 @@
 ghost use Rattle.std.specs.Prelude.{◌≡◌};
 ghost use Rattle.transfers.specs.Transfers as T;
 
-use answers::Answer;
-use bundle::Read;
+use answers::{Answer, Refusal};
 use curves::CurvePoint;
 use mixing::MixingTopology;
 
@@ -57,14 +56,18 @@ pub fn judge_mixer(curves: &[u8], slot: u8, topology: MixingTopology, input_sum:
 }
 
 // The output, each entry judged as it is read.
-pub fn read_mixer(curves: &[u8], slot: u8, topology: MixingTopology, input_sum: f32) -> Result<f32, Refusal>
+pub fn read_mixer(
+    curves: &[u8],
+    slot: u8,
+    topology: MixingTopology,
+    input_sum: f32,
+) -> Result<f32, Refusal>
     ensures { result ≡ T.read_mixer_of curves.now slot topology input_sum }
 {
-    let count = topology.mixer_input_count;
-    if count <= 7 {
-        return curves::read_curve(curves, slot, mixer_average(topology, input_sum));
+    if topology.mixer_input_count > 7 {
+        return Err(Refusal::Argument);
     }
-    Err(Refusal::Argument)
+    curves::read_curve(curves, slot, mixer_average(topology, input_sum))
 }
 
 // ---- volume_transfer
