@@ -19,6 +19,8 @@ use Rattle.sample.specs.declared.Sampled.{Sampled}
 use Rattle.sample.specs.Sample.{is_idle_of, moved_of, at_rest_of, advance_filter_core_of, select_filter_output_of, judge_sample_of, outputs_finite, taken_of, filter_sample_of}
 use Rattle.std.specs.Prelude.{Err, is_ok, Option, Some, None, Result, Ok}
 use Rattle.answers.specs.declared.Refusal.{Refusal}
+use Rattle.answers.specs.Answers.{Answer}
+use Rattle.std.specs.Result.{result_and}
 
 abbrev three : FilterOutputs → Bool
 three o = finite o.high_pass && finite o.band_pass && finite o.low_pass
@@ -28,8 +30,8 @@ moves (Some a) = three a.outputs
 moves None = true
 
 unfoldable takes : Result Sampled Refusal → Bool
-takes (Ok (record { outputs = o; state = s })) = outputs_finite o
-takes (Err answer) = true
+takes (Ok t) = outputs_finite t.outputs
+takes (Err refusal) = true
 
 -- ---- the substeps
 
@@ -82,12 +84,16 @@ taken_takes c count mode (Some a) h = go (finite (select_filter_output_of c coun
     go true e = rw (h, e)
     go false e = refl
 
+taken_after : (judged : Answer) (x : Result Sampled Refusal) → takes x ≡ true → takes (result_and judged x) ≡ true
+unfolding takes
+taken_after (Ok _) x h = h
+taken_after (Err refusal) x h = refl
+
 -- what a sample gives, where it is taken
 pub outputs_finite_lem : (bundle curves : List ℕ) (slot : ℕ) (t : MixingTopology) (c : ControlCache) (mode : ℕ) (s : IntegratorState) (sum energy : Float) {x : Result Sampled Refusal} (o : Outputs) (j : IntegratorState)
     → x ≡ filter_sample_of bundle curves slot t c mode s sum energy → x ≡ Ok (record { outputs = o; state = j }) → outputs_finite o ≡ true
 unfolding filter_sample_of advance_filter_core_of takes
 outputs_finite_lem bundle curves slot t c mode s sum energy o j is got =
     ap takes (sym got ∙ is)
-    ∙ either (is_ok (judge_sample_of bundle curves slot t s sum energy)) takes
+    ∙ taken_after (judge_sample_of bundle curves slot t s sum energy) _
     (taken_takes c t.filter_output_count mode _ (either (is_idle_of t.filter_input_count s) moves (rest_moves s) (moved_moves c.filter s _ _)))
-    refl

@@ -16,6 +16,7 @@ use Rattle.refresh.specs.Refresh.{core_controls_of}
 use Rattle.sample.specs.Sample.{summer_transfer_of, judge_summer_of, is_idle_of, moved_of, at_rest_of, advance_filter_core_of, mixed_of, select_filter_output_of, judge_sample_of, taken_of, filter_sample_of}
 use Rattle.sample.specs.Parts.{cache_of, rest_of, above_of, core_input_of, stepped_of, sample_from_parts_of}
 use Rattle.std.specs.Prelude.{is_ok, Option, Some, None, Result, Float, Ok, Err}
+use Rattle.std.specs.Result.{result_and}
 use Rattle.integrator.specs.declared.Advanced.{Advanced}
 use Rattle.answers.specs.declared.Refusal.{Refusal}
 
@@ -27,14 +28,11 @@ taken_parts gains input_drives feedback_drives core gain count mode None = refl
 taken_parts gains input_drives feedback_drives core gain count mode (Some a) = refl
 
 -- The curve above the rest, both as they are read.
-above_read : (j k : Answer) (u v : Float) → above_of (read_of j u) (read_of k v) ≡ cond (is_ok (first_of j k)) (Level (u ⊖ v)) (Err (first_of j k))
+above_read : (j k : Answer) (u v : Float) → above_of (read_of j u) (read_of k v) ≡ result_and (first_of j k) (Ok (u ⊖ v))
 unfolding above_of read_of
-above_read j k u v = go (is_ok j) (is_ok k) refl refl
-  where
-    go : (d e : Bool) → is_ok j ≡ d → is_ok k ≡ e → above_of (read_of j u) (read_of k v) ≡ cond (is_ok (first_of j k)) (Level (u ⊖ v)) (Err (first_of j k))
-    go true true h i = simp (h, i)
-    go true false h i = simp (h, i)
-    go false e h i = simp h
+above_read (Ok _) (Ok _) u v = refl
+above_read (Ok _) (Err r) u v = refl
+above_read (Err r) k u v = refl
 
 module _ (bundle curves : List ℕ) (slot : ℕ) (t : MixingTopology) (c : ControlCache) (mode : ℕ) (s : IntegratorState) (sum energy : Float) where
   -- the parts of the controls
@@ -48,20 +46,20 @@ module _ (bundle curves : List ℕ) (slot : ℕ) (t : MixingTopology) (c : Contr
 
   same_stepped : (fed : Result (Option Float) Refusal) → stepped_of t parts mode s energy fed ≡ stepped_of t c mode s energy fed
   unfolding stepped_of moved_of
-  same_stepped Idle = same_taken (at_rest_of s)
-  same_stepped (Level x) = same_taken _
+  same_stepped (Ok None) = same_taken (at_rest_of s)
+  same_stepped (Ok (Some x)) = same_taken _
   same_stepped (Err a) = refl
 
   plain : stepped_of t c mode s energy (core_input_of curves slot t (rest_of bundle t) s sum energy) ≡ filter_sample_of bundle curves slot t c mode s sum energy
   unfolding stepped_of core_input_of filter_sample_of judge_sample_of advance_filter_core_of judge_summer_of summer_transfer_of
-  plain = go (finite sum && finite energy) (is_idle_of t.filter_input_count s) (is_ok (judge_summer_of bundle curves slot t sum)) refl refl refl
+  plain = go (finite sum && finite energy) (is_idle_of t.filter_input_count s) (judge_summer_of bundle curves slot t sum) refl refl refl
     where
-      go : (f i d : Bool) → (finite sum && finite energy) ≡ f → is_idle_of t.filter_input_count s ≡ i → is_ok (judge_summer_of bundle curves slot t sum) ≡ d
+      go : (f i : Bool) (j : Answer) → (finite sum && finite energy) ≡ f → is_idle_of t.filter_input_count s ≡ i → judge_summer_of bundle curves slot t sum ≡ j
           → stepped_of t c mode s energy (core_input_of curves slot t (rest_of bundle t) s sum energy) ≡ filter_sample_of bundle curves slot t c mode s sum energy
-      go false i d e h k = simp e
-      go true true d e h k = simp (e, h)
-      go true false true e h k = simp (e, h, above_read, k)
-      go true false false e h k = simp (e, h, above_read, k)
+      go false i j e h k = simp e
+      go true true j e h k = simp (e, h)
+      go true false (Ok _) e h k = simp (e, h, above_read, k)
+      go true false (Err r) e h k = simp (e, h, above_read, k)
 
   pub parts_are_sample : sample_from_parts_of curves slot t parts (rest_of bundle t) mode s sum energy ≡ filter_sample_of bundle curves slot t c mode s sum energy
   parts_are_sample = same_stepped (core_input_of curves slot t (rest_of bundle t) s sum energy) ∙ plain

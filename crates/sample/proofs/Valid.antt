@@ -25,6 +25,7 @@ use Rattle.sample.specs.Sample.{is_idle_of, tracked_energy_of, fed_energy_of, su
 use Rattle.answers.specs.Answers.{Answer}
 use Rattle.std.specs.Prelude.{Err, is_ok, Option, Some, None, Result, Ok}
 use Rattle.answers.specs.declared.Refusal.{Refusal}
+use Rattle.std.specs.Result.{result_and}
 
 -- the numbers of the state after it, where there is one
 unfoldable finite_after : Option Advanced → Bool
@@ -32,8 +33,8 @@ finite_after (Some a) = finite_floats_of a.state
 finite_after None = true
 
 unfoldable pub finite_taken : Result Sampled Refusal → Bool
-finite_taken (Ok (record { outputs = outputs; state = s })) = finite_floats_of s
-finite_taken (Err answer) = true
+finite_taken (Ok t) = finite_floats_of t.state
+finite_taken (Err refusal) = true
 
 -- ---- the floats
 
@@ -117,9 +118,14 @@ state_valid : (o : Outputs) (s : IntegratorState) → finite_floats_of s ≡ tru
 unfolding finite_taken
 state_valid o s h = h
 
-refused_valid : (a : Answer) → finite_taken (Err a) ≡ true
+refused_valid : (a : Refusal) → finite_taken (Err a) ≡ true
 unfolding finite_taken
 refused_valid a = refl
+
+valid_after : (judged : Answer) (x : Result Sampled Refusal) → finite_taken x ≡ true → finite_taken (result_and judged x) ≡ true
+unfolding finite_taken
+valid_after (Ok _) x h = h
+valid_after (Err refusal) x h = refl
 
 taken_valid : (c : ControlCache) (count mode : ℕ) (b : Option Advanced) → finite_after b ≡ true → finite_taken (taken_of c count mode b) ≡ true
 unfolding finite_after taken_of
@@ -152,4 +158,4 @@ module _ (bundle curves : List ℕ) (slot : ℕ) (t : MixingTopology) (s : Integ
       let judged = judge_sample_of bundle curves slot t s sum energy in
       let count = t.filter_output_count in
       let moved = advance_filter_core_of bundle curves slot t c.filter s sum energy in
-      either (is_ok judged) (taken_of c count mode moved) (Err judged) (taken_valid c count mode moved (core_valid c.filter h)) (refused_valid judged)
+      valid_after judged (taken_of c count mode moved) (taken_valid c count mode moved (core_valid c.filter h))

@@ -68,28 +68,33 @@ summer_curve_of curves slot t sum =
     read_of (judge_places_of Curves curves (sample_curve_places_of slot (average_of t sum))) (sample_curve_of curves slot (average_of t sum))
 
 -- the curve above the rest; the curve's entries are judged first
-unfoldable pub above_of : Result Float Refusal → Result Float Refusal → Result (Option Float) Refusal
-above_of (Err a) rest = Err a
-above_of (Ok x) (Err a) = Err a
-above_of (Ok x) (Ok rest) = Level (x ⊖ rest)
+unfoldable pub above_of : Result Float Refusal → Result Float Refusal → Result Float Refusal
+above_of (Err refusal) rest = Err refusal
+above_of (Ok x) (Err refusal) = Err refusal
+above_of (Ok x) (Ok rest) = Ok (x ⊖ rest)
 
-abbrev pub summed_of : List ℕ → ℕ → MixingTopology → Result Float Refusal → Float → Result (Option Float) Refusal
+abbrev pub summed_of : List ℕ → ℕ → MixingTopology → Result Float Refusal → Float → Result Float Refusal
 summed_of curves slot t rest sum = above_of (summer_curve_of curves slot t sum) rest
 
 -- ---- the sample
+
+-- a level as what the core is fed, which is nothing where it is idle
+abbrev pub fed_level_of : Result Float Refusal → Result (Option Float) Refusal
+fed_level_of (Ok x) = Ok (Some x)
+fed_level_of (Err refusal) = Err refusal
 
 -- 5, and 3 where the sample is not idle
 unfoldable pub core_input_of : List ℕ → ℕ → MixingTopology → Result Float Refusal → IntegratorState → Float → Float → Result (Option Float) Refusal
 core_input_of curves slot t rest s sum energy =
     cond (finite sum && finite energy)
-    (cond (is_idle_of t.filter_input_count s) Idle (summed_of curves slot t rest sum))
+    (cond (is_idle_of t.filter_input_count s) (Ok None) (fed_level_of (summed_of curves slot t rest sum)))
     (Err InputNotFinite)
 
 -- `advance_filter_core` from what the summer gives, and `select_filter_output`
 unfoldable pub stepped_of : MixingTopology → ControlCache → ℕ → IntegratorState → Float → Result (Option Float) Refusal → Result Sampled Refusal
-stepped_of t c mode s energy Idle = taken_of c t.filter_output_count mode (at_rest_of s)
-stepped_of t c mode s energy (Err a) = Err a
-stepped_of t c mode s energy (Level x) =
+stepped_of t c mode s energy (Ok None) = taken_of c t.filter_output_count mode (at_rest_of s)
+stepped_of t c mode s energy (Err refusal) = Err refusal
+stepped_of t c mode s energy (Ok (Some x)) =
     taken_of c t.filter_output_count mode
     (moved_of c.filter s (x ⊗ K.filter_input_gain)
     (tracked_energy_of s.filter_source_energy (fed_energy_of t.filter_input_count t.filter_input_reciprocal energy)))

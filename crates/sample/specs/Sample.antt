@@ -7,6 +7,7 @@ use Rattle.std.specs.Float.Ieee.Scale.{finite}
 use Rattle.constants.specs.Values as K
 use Rattle.answers.specs.declared.Refusal.TheVariants.{InputNotFinite, Domain}
 use Rattle.answers.specs.declared.Buffer.TheVariants.{Bundle, Curves}
+use Rattle.std.specs.Result.{result_and}
 use Rattle.answers.specs.Answers.{first_of, unless_of, Answer, done}
 use Rattle.floats.specs.Arithmetic.{◌⊕◌, ◌⊖◌, ◌⊗◌, ◌⊘◌, f32}
 use Rattle.integrator.specs.declared.IntegratorState.{IntegratorState}
@@ -167,10 +168,10 @@ taken_of c count mode None = Err Domain
 taken_of c count mode (Some a) =
     let selected = select_filter_output_of c count mode a.outputs in
     cond (finite selected)
-    (Ok (record { outputs = (record { high = a.outputs.high_pass; band = a.outputs.band_pass; low = a.outputs.low_pass; selected = selected }); state = a.state }))
+    (Ok (record { outputs = record { high = a.outputs.high_pass; band = a.outputs.band_pass; low = a.outputs.low_pass; selected = selected }; state = a.state }))
     (Err Domain)
 
 unfoldable pub filter_sample_of : List ℕ → List ℕ → ℕ → MixingTopology → ControlCache → ℕ → IntegratorState → Float → Float → Result Sampled Refusal
 filter_sample_of bundle curves slot t c mode s sum energy =
     let judged = judge_sample_of bundle curves slot t s sum energy in
-    cond (is_ok judged) (taken_of c t.filter_output_count mode (advance_filter_core_of bundle curves slot t c.filter s sum energy)) (Err judged)
+    result_and judged (taken_of c t.filter_output_count mode (advance_filter_core_of bundle curves slot t c.filter s sum energy))

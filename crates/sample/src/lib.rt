@@ -6,11 +6,10 @@ ghost use Rattle.response.specs.Position.{operating_position_of};
 ghost use Rattle.sample.specs.Sample as S;
 ghost use Rattle.sample.specs.Parts as P;
 
-use answers::Answer;
-use bundle::Read;
+use answers::{Answer, Refusal};
 use controls::ControlCache;
 use curves::CurvePoint;
-use integrator::{Coefficients, FilterOutputs, IntegratorState, Option<Advanced>};
+use integrator::{Advanced, Coefficients, FilterOutputs, IntegratorState};
 use mixing::MixingTopology;
 use refresh::CoreControls;
 use response::TablePosition;
@@ -25,16 +24,11 @@ pub struct Outputs {
     pub selected: f32,
 }
 
-// A sample that was taken, with the state after it, or one that was refused, which leaves the state as it was.
+// A sample that was taken, and the state after it. One that is refused leaves the state as it was.
 #[derive(Clone, Copy)]
-pub enum Sampled {
-    Taken {
-        outputs: Outputs,
-        state: IntegratorState,
-    },
-    Refused {
-        answer: Answer,
-    },
+pub struct Sampled {
+    pub outputs: Outputs,
+    pub state: IntegratorState,
 }
 
 // ---- summer_transfer
@@ -115,14 +109,6 @@ pub fn rest_of(bundle: &[u8], topology: MixingTopology) -> Result<f32, Refusal>
     curves::read_resting_output(bundle, summer_inputs(topology.filter_input_count))
 }
 
-// What the core is fed: nothing where it is idle, the summer's output above its rest, or a refusal.
-#[derive(Clone, Copy)]
-pub enum CoreInput {
-    Idle,
-    Level(f32),
-    Refused(Answer),
-}
-
 // The summer's output above a rest that is handed in, each entry judged as it is read.
 fn summed(
     curves: &[u8],
@@ -130,17 +116,12 @@ fn summed(
     topology: MixingTopology,
     rest: Result<f32, Refusal>,
     input_sum: f32,
-) -> CoreInput
+) -> Result<f32, Refusal>
     ensures { result ≡ P.summed_of curves.now slot topology rest input_sum }
 {
-    let curve = curves::read_curve(curves, slot, average(topology, input_sum));
-    match curve {
-        Err(answer) => Err(answer),
-        Ok(level) => match rest {
-            Err(answer) => Err(answer),
-            Ok(resting) => Ok(Some)(level - resting),
-        },
-    }
+    let level = curves::read_curve(curves, slot, average(topology, input_sum))?;
+    let resting = rest?;
+    Ok(level - resting)
 }
 
 // ---- advance_filter_core
@@ -234,7 +215,7 @@ fn moved(
 fn at_rest(s: IntegratorState) -> Option<Advanced>
     ensures { result ≡ S.at_rest_of s }
 {
-    Some(integrator::Advanced {
+    Some(Advanced {
         outputs: FilterOutputs {
             high_pass: 0.0,
             band_pass: 0.0,
@@ -304,34 +285,25 @@ fn taken(
     count: usize,
     mode: u8,
     moved: Option<Advanced>,
-) -> Sampled
+) -> Result<Sampled, Refusal>
     ensures { result ≡ S.taken_of (P.cache_of [] [] [] core mode_output_gain) count mode moved }
 {
-    let Some(a) = moved else {
-        return Sampled::Refused {
-            answer: Err(Refusal::Domain),
-        };
-    };
-    let o = a.outputs;
-    let state = a.state;
+    let advanced = moved.ok_or(Refusal::Domain)?;
+    let o = advanced.outputs;
     let selected = select_filter_output(core, mode_output_gain, count, mode, o);
-    if floats::is_finite(selected) {
-        return Sampled::Taken {
-            outputs: Outputs {
-                high: o.high_pass,
-                band: o.band_pass,
-                low: o.low_pass,
-                selected,
-            },
-            state,
-        };
-    }
-    Sampled::Refused {
-        answer: Err(Refusal::Domain),
-    }
+    answers::unless(floats::is_finite(selected), Refusal::Domain)?;
+    Ok(Sampled {
+        outputs: Outputs {
+            high: o.high_pass,
+            band: o.band_pass,
+            low: o.low_pass,
+            selected,
+        },
+        state: advanced.state,
+    })
 }
 
-// Whether the sum and the energy are finite, then what the summer gives.
+// What the core is fed, where the sum and the energy are finite: nothing where it is idle, else the summer's output above its rest.
 fn core_input(
     curves: &[u8],
     slot: u8,
@@ -340,16 +312,18 @@ fn core_input(
     s: IntegratorState,
     input_sum: f32,
     source_energy: f32,
-) -> CoreInput
+) -> Result<Option<f32>, Refusal>
     ensures { result ≡ P.core_input_of curves.now slot topology rest s input_sum source_energy }
 {
-    if floats::is_finite(input_sum) & floats::is_finite(source_energy) {
-        if is_idle(topology.filter_input_count, s) {
-            return Ok(None);
-        }
-        return summed(curves, slot, topology, rest, input_sum);
+    answers::unless(
+        floats::is_finite(input_sum) & floats::is_finite(source_energy),
+        Refusal::InputNotFinite,
+    )?;
+    if is_idle(topology.filter_input_count, s) {
+        return Ok(None);
     }
-    Err(Refusal::InputNotFinite)
+    let level = summed(curves, slot, topology, rest, input_sum)?;
+    Ok(Some(level))
 }
 
 // One sample of the filter on the parts of the controls, with the summer's rest worked out before. The operating bin is guessed from `earlier`, capacitors that are
@@ -369,37 +343,31 @@ pub fn sample_from_parts(
     earlier: IntegratorState,
     input_sum: f32,
     source_energy: f32,
-) -> Sampled
+) -> Result<Sampled, Refusal>
     ensures { result ≡ P.sample_from_parts_of curves.now slot topology
         (P.cache_of gains.now input_drives.now feedback_drives.now core mode_output_gain)
         rest mode s input_sum source_energy }
 {
     let count = topology.filter_output_count;
-    let fed = core_input(curves, slot, topology, rest, s, input_sum, source_energy);
-    match fed {
-        Ok(None) => taken(core, mode_output_gain, count, mode, at_rest(s)),
-        Err(answer) => Sampled::Refused { answer },
-        Ok(Some)(level) => {
-            let energy = tracked_energy(
-                s.filter_source_energy,
-                fed_energy(topology, source_energy),
-            );
-            let input = level * constants::FILTER_INPUT_GAIN;
-            let guess = response::guessed_bin(input, earlier.band_state, earlier.low_state);
-            let at = response::operating_position_near(input, s.band_state, s.low_state, guess);
-            let moved = moved(
-                gains,
-                input_drives,
-                feedback_drives,
-                core,
-                s,
-                input,
-                at,
-                energy,
-            );
-            taken(core, mode_output_gain, count, mode, moved)
-        }
-    }
+    let fed = core_input(curves, slot, topology, rest, s, input_sum, source_energy)?;
+    let Some(level) = fed else {
+        return taken(core, mode_output_gain, count, mode, at_rest(s));
+    };
+    let energy = tracked_energy(s.filter_source_energy, fed_energy(topology, source_energy));
+    let input = level * constants::FILTER_INPUT_GAIN;
+    let guess = response::guessed_bin(input, earlier.band_state, earlier.low_state);
+    let at = response::operating_position_near(input, s.band_state, s.low_state, guess);
+    let moved = moved(
+        gains,
+        input_drives,
+        feedback_drives,
+        core,
+        s,
+        input,
+        at,
+        energy,
+    );
+    taken(core, mode_output_gain, count, mode, moved)
 }
 
 // One sample of the filter on the topology and the controls that are handed in, with the slot of the summer's curve.
@@ -413,7 +381,7 @@ pub fn filter_sample(
     state: IntegratorState,
     input_sum: f32,
     source_energy: f32,
-) -> Sampled
+) -> Result<Sampled, Refusal>
     ensures { result ≡ S.filter_sample_of bundle.now curves.now slot topology controls mode state input_sum source_energy }
 {
     let f = controls.filter;
