@@ -1,6 +1,6 @@
 -- Answers taken one after the other.
 use Rattle.std.proofs.Common.{ap}
-use Rattle.std.specs.Result.{IsErr, IsErrAnd}
+use Rattle.std.specs.Result.{IsErr, IsErrAnd, result_and}
 use Rattle.std.specs.Prelude.{◌≡◌, refl, Bool, true, false, Result, Ok, Err, is_ok}
 use Rattle.answers.specs.declared.Refusal.{Refusal}
 use Rattle.answers.specs.Answers.{Answer, done, first_of, unless_of}
@@ -33,6 +33,15 @@ handed_on (Err x) h = ap Err h.1
 -- The same refusal in place of another value.
 pub same_refusal : {T : Type 0} {a b : Refusal} → ◌≡◌ {A = Result T Refusal} (Err a) (Err b) → a ≡ b
 same_refusal h = cc
+
+-- A value behind what is judged before it.
+pub and_refused : {T : Type 0} (judged : Answer) (x : T) {r : Refusal} → result_and judged (Ok x) ≡ Err r → judged ≡ Err r
+and_refused (Ok _) x h = cc
+and_refused (Err r) x h = cc
+
+pub and_done : {T : Type 0} (judged : Answer) (x : T) {y : T} → result_and judged (Ok x) ≡ Ok y → (judged ≡ done) × (x ≡ y)
+and_done (Ok _) x h = (refl, (cc))
+and_done (Err r) x h = (cc, (cc))
 
 -- An answer with nothing after it.
 pub first_of_done : (a : Answer) → first_of a done ≡ a

@@ -9,6 +9,7 @@ use lib.Ieee.{Float, of_bits, of_int, div}
 use lib.Ieee.Scale.{finite}
 use borrow.Author.Tests.{le-leb}
 use Rattle.answers.specs.declared.Refusal.TheVariants.{Domain, Argument}
+use Rattle.std.specs.Result.{result_and}
 use Rattle.answers.specs.Answers.{first_of, unless_of, Answer, done}
 use Rattle.answers.proofs.Laws.{done_is, first_done, first_of_done, unless_done}
 use Rattle.bundle.specs.Opening.{check_of}
@@ -36,7 +37,7 @@ use Rattle.sample.proofs.Valid.{finite_taken, sample_valid}
 use Rattle.script.specs.declared.Event.{Event}
 use Rattle.script.specs.declared.Event.TheVariants.{CutoffLow, CutoffHigh, Routing, Mode, Sample, Reset}
 use Rattle.filter.specs.declared.Core.{Core}
-use Rattle.filter.specs.declared.Fed.{Fed}
+use Rattle.filter.specs.Core.{Fed}
 use Rattle.filter.specs.Lent.{Lent, lent_of, judge_tables_of, judge_lent_of}
 use Rattle.filter.specs.Core.{fresh_topology_of, core_of, judge_core_of, countable_of, sound_of, settled_of, quiet_of, with_integrator, after_of, core_start_of, refreshed_of, reselected_of}
 use Rattle.filter.specs.Core.{change_of, take_of, feed_event_of, core_write_of, core_sample_of, feed_of}
@@ -160,33 +161,7 @@ module _ (l : Lent) (k : Core) (kept : Invariant l k) where
     unfolding reselected_of
     mode_changes = rw mode_new (settles l k selected (core_of l selected) kept refl (mode_valid k.state kept.valid v) mode_judged)
 
--- ---- what a refused sample has, and what a topology
-
--- a refused sample has a refusal
-unfoldable pub refuses : Result Sampled Refusal → Bool
-refuses (Ok (record { outputs = outputs; state = i })) = true
-refuses (Err answer) = not (is_ok answer)
-
-pub taken_refuses : (c : ControlCache) (count mode : ℕ) (moved : Option Advanced) → refuses (taken_of c count mode moved) ≡ true
-unfolding taken_of refuses
-taken_refuses c count mode None = refl
-taken_refuses c count mode (Some a) = go (finite (select_filter_output_of c count mode a.outputs)) _ _
-  where
-    go : (t : Bool) (o : Outputs) (i : IntegratorState) → refuses (cond t (Ok (record { outputs = o; state = i })) (Err Domain)) ≡ true
-    go true o i = refl
-    go false o i = refl
-
-pub sample_refuses : (bundle curves : List ℕ) (slot : ℕ) (t : MixingTopology) (c : ControlCache) (mode : ℕ) (i : IntegratorState) (sum energy : Float)
-    → refuses (filter_sample_of bundle curves slot t c mode i sum energy) ≡ true
-unfolding filter_sample_of refuses
-sample_refuses bundle curves slot t c mode i sum energy =
-    let judged = judge_sample_of bundle curves slot t i sum energy in
-    let moved = advance_filter_core_of bundle curves slot t c.filter i sum energy in
-    go judged (taken_of c t.filter_output_count mode moved) (is_ok judged) refl (taken_refuses c t.filter_output_count mode moved)
-  where
-    go : (judged : Answer) (x : Result Sampled Refusal) (d : Bool) → is_ok judged ≡ d → refuses x ≡ true → refuses (cond d x (Err judged)) ≡ true
-    go judged x true h r = r
-    go judged x false h r = rw h refl
+-- ---- what a topology has
 
 -- the reciprocals of a topology's counts
 reciprocal_finite : (n : ℕ) → n ≤ 7 → finite (reciprocal_of n) ≡ true
@@ -245,14 +220,10 @@ module _ (l : Lent) (s : State) (valid : valid_of s ≡ true) (judged : judge_co
     abbrev Samples : Fed → Plain → Type 0
     Samples r p = (shown (Sample sum energy) r ≡ p) × Invariant l r.core
 
-    after_taken : (x : Result Sampled Refusal) → refuses x ≡ true → finite_taken x ≡ true → Samples (after_of (core_of l s) x) (plain_taken s x)
-    unfolding refuses finite_taken
-    after_taken (Ok (record { outputs = o; state = i })) r f = (refl, after_invariant i f)
-    after_taken (Err a) r f = go (is_ok a) refl r
-      where
-        go : (d : Bool) → is_ok a ≡ d → not d ≡ true → Samples (after_of (core_of l s) (Err a)) (plain_taken s (Err a))
-        go true h n = absurd (true≢false (sym n))
-        go false h n = rw h (refl, fresh_invariant)
+    after_taken : (x : Result Sampled Refusal) → finite_taken x ≡ true → Samples (after_of (core_of l s) x) (plain_taken s x)
+    unfolding finite_taken
+    after_taken (Ok t) f = (refl, after_invariant t.state f)
+    after_taken (Err refusal) f = (refl, fresh_invariant)
 
     -- Where the controls are not refused, the plain machine's sample is the sample on what is worked out afresh.
     pub sample_plain : plain_taken s sampled ≡ plain_sample l s sum energy
@@ -261,17 +232,17 @@ module _ (l : Lent) (s : State) (valid : valid_of s ≡ true) (judged : judge_co
         let t = fresh_topology_of s in
         let reads = judge_reads_of l.bundle l.curves (summer_slot_of t) t s.integrator sum in
         let p = parts l.bundle s judged in
-        rw (p.0, p.1, first_of_done reads) (go (is_ok (first_of (judge_input_of sum energy) reads)) _ _)
+        rw (p.0, p.1, first_of_done reads) (go (first_of (judge_input_of sum energy) reads) _)
       where
-        go : (d : Bool) (answer : Answer) (x : Result Sampled Refusal) → plain_taken s (cond d x (Err answer)) ≡ cond d (plain_taken s x) (refused_at s answer)
-        go true answer x = refl
-        go false answer x = refl
+        go : (judged : Answer) (x : Result Sampled Refusal) → plain_taken s (result_and judged x) ≡ cond (is_ok judged) (plain_taken s x) (refused_at s judged)
+        go (Ok _) x = refl
+        go (Err refusal) x = refl
 
     sample_steps : Samples (take_of l (core_of l s) sum energy) (plain_sample l s sum energy)
     unfolding take_of
     sample_steps =
         rw (← sample_plain)
-        (after_taken sampled (sample_refuses l.bundle l.curves _ _ _ _ s.integrator sum energy)
+        (after_taken sampled
         (sample_valid l.bundle l.curves _ _ s.integrator sum energy _ _ (valid_ranges s valid).floats))
 
 -- ---- any event
@@ -332,7 +303,7 @@ module _ (l : Lent) (s : State) (started : plain_start l s ≡ done) where
       record { ready = p.0; valid = unless_done (valid_of s) Argument q.0; decayed = r.0; judged = r.1 }
 
   pub start_core : (core_start_of l s).core ≡ core_of l s
-  start_core = rw start_parts.judged refl
+  start_core = refl
 
   pub start_agrees : (es : List Event) → Agrees l start_parts.ready start_parts.decayed (core_start_of l s).core es
   start_agrees es =

@@ -11,8 +11,8 @@ use Rattle.bundle.specs.Opening.{check_of}
 use Rattle.control.specs.declared.State.{State}
 use Rattle.script.specs.declared.Event.{Event}
 use Rattle.filter.specs.declared.Core.{Core}
-use Rattle.filter.specs.declared.Written.{Written}
-use Rattle.filter.specs.declared.Fed.{Fed}
+use Rattle.filter.specs.Core.{Written}
+use Rattle.filter.specs.Core.{Fed}
 use Rattle.filter.specs.Lent.{Lent, judge_lent_of}
 use Rattle.filter.specs.Core.{fresh_topology_of, judge_core_of, quiet_of, core_start_of, core_write_of, feed_of}
 use Rattle.filter.specs.Plain.{plain_start}
@@ -45,14 +45,14 @@ list_most l s es started = fresh_most l (core_trace l (core_start_of l s).core e
 -- ---- what is handed in: 10, whatever the event, and the core is handed back
 
 module _ (k : Core) (above : 7 < inputs_of k) where
-  judged_above : judge_core_of k ≡ Argument
+  judged_above : judge_core_of k ≡ Err Argument
   unfolding judge_core_of
   judged_above = simp (lt-leb (inputs_of k) 7 above, and-false)
 
-  pub feed_above : (l : Lent) (e : Event) → judge_lent_of l ≡ done → feed_of l k e ≡ quiet_of (record { answer = Argument; core = k })
+  pub feed_above : (l : Lent) (e : Event) → judge_lent_of l ≡ done → feed_of l k e ≡ quiet_of (record { answer = Err Argument; core = k })
   unfolding feed_of
   feed_above l e ready = rw (ready, judged_above) refl
 
-  pub write_above : (bundle : List ℕ) (e : Event) → check_of bundle ≡ done → ◌≡◌ {A = Written} (core_write_of bundle k e) (record { answer = Argument; core = k })
+  pub write_above : (bundle : List ℕ) (e : Event) → check_of bundle ≡ done → ◌≡◌ {A = Written} (core_write_of bundle k e) (record { answer = Err Argument; core = k })
   unfolding core_write_of
   write_above bundle e opened = rw (opened, judged_above) refl

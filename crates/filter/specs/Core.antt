@@ -17,15 +17,14 @@ use Rattle.control.specs.Block.{valid_of}
 use Rattle.controls.specs.declared.ControlCache.{ControlCache}
 use Rattle.controls.specs.Controls.{refresh_mode_output_gain_of, refresh_register_output_state_of, controls_of}
 use Rattle.controls.specs.Judging.{judge_controls_of, finite_controls_of}
-use Rattle.refresh.specs.Refresh.{judge_gain_of, refresh_of}
+use Rattle.refresh.specs.Refresh.{judge_gain_of}
+use Rattle.std.specs.Result.{result_and}
 use Rattle.sample.specs.declared.Outputs.{Outputs}
 use Rattle.sample.specs.declared.Sampled.{Sampled}
 use Rattle.sample.specs.Sample.{summer_slot_of, filter_sample_of}
 use Rattle.script.specs.declared.Event.{Event}
 use Rattle.script.specs.declared.Event.TheVariants.{CutoffLow, CutoffHigh, Routing, Mode, Sample, Reset}
 use Rattle.filter.specs.declared.Core.{Core}
-use Rattle.filter.specs.declared.Written.{Written}
-use Rattle.filter.specs.declared.Fed.{Fed}
 use Rattle.filter.specs.Lent.{Lent, judge_lent_of}
 use Rattle.filter.specs.Plain.{plain_start}
 use Rattle.answers.specs.declared.Refusal.{Refusal}
@@ -58,6 +57,17 @@ judge_core_of k = unless_of (valid_of k.state && countable_of k.topology && soun
 
 -- ---- what an event hands back
 
+-- A write's answer and the next core; where it is refused, the core that it took.
+pub record Written : Type 0 where
+  pub answer : Answer
+  pub core : Core
+
+-- An event's answer, with the outputs of a sample that was taken, and zeros in any other case, and the core after it.
+pub record Fed : Type 0 where
+  pub answer : Answer
+  pub outputs : Outputs
+  pub core : Core
+
 -- the next core, or the one that was taken
 abbrev pub settled_of : Answer → Core → Core → Written
 settled_of answer old new = record { answer = answer; core = cond (is_ok answer) new old }
@@ -75,13 +85,20 @@ abbrev pub with_integrator : State → IntegratorState → State
 with_integrator s i = record { registers = s.registers; integrator = i; transients = s.transients }
 
 abbrev pub after_of : Core → Result Sampled Refusal → Fed
-after_of k (Ok (record { outputs = outputs; state = i })) = record { answer = done; outputs = outputs; core = record { state = with_integrator k.state i; topology = k.topology; controls = k.controls } }
-after_of k (Err answer) = record { answer = answer; outputs = no_outputs; core = k }
+after_of k (Ok s) = record { answer = done; outputs = s.outputs; core = record { state = with_integrator k.state s.state; topology = k.topology; controls = k.controls } }
+after_of k (Err refusal) = record { answer = Err refusal; outputs = no_outputs; core = k }
 
--- ---- the start: the core of a state; where it is refused, no list starts from what it hands back
+-- ---- the start: the core of a state, which is handed out where it is not refused
 
 abbrev pub core_start_of : Lent → State → Written
-core_start_of l s = record { answer = plain_start l s; core = record { state = s; topology = fresh_topology_of s; controls = (refresh_of l.bundle s).controls } }
+core_start_of l s = record { answer = plain_start l s; core = core_of l s }
+
+abbrev pub started_of : Written → Result Core Refusal
+started_of w = result_and w.answer (Ok w.core)
+
+-- What a sample answers, beside the core after it.
+abbrev pub outputs_of : Fed → Result Outputs Refusal
+outputs_of f = result_and f.answer (Ok f.outputs)
 
 -- ---- what an event does to a core that is not refused
 

@@ -45,8 +45,8 @@ plain_change l s t =
 
 -- A sample that was taken gives the outputs and new floats; one that left the domain, 6.
 abbrev pub plain_taken : State → Result Sampled Refusal → Plain
-plain_taken s (Ok (record { outputs = outputs; state = i })) = record { answer = done; sample = outputs ∷ []; state = record { registers = s.registers; integrator = i; transients = s.transients } }
-plain_taken s (Err answer) = refused_at s answer
+plain_taken s (Ok t) = record { answer = done; sample = t.outputs ∷ []; state = record { registers = s.registers; integrator = t.state; transients = s.transients } }
+plain_taken s (Err refusal) = refused_at s (Err refusal)
 
 -- A sample: 5, then every 3, of the controls and of the sample, then 6 of the controls; and last its own 6.
 abbrev pub judge_plain : Lent → State → Float → Float → Answer

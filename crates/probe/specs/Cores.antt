@@ -5,7 +5,7 @@ use Rattle.answers.specs.declared.Refusal.TheVariants.{Script}
 use Rattle.answers.specs.Answers.{number_of, buffer_of, place_of}
 use Rattle.control.specs.declared.FilterRegisters.{FilterRegisters}
 use Rattle.filter.specs.declared.Core.{Core}
-use Rattle.filter.specs.declared.Fed.{Fed}
+use Rattle.filter.specs.Core.{Fed}
 use Rattle.filter.specs.Lent.{Lent}
 use Rattle.filter.specs.Core.{no_outputs, feed_of}
 use Rattle.probe.specs.declared.cores.Registers.{Registers}

@@ -8,7 +8,7 @@ use Rattle.transients.specs.declared.TransientState.{TransientState}
 use Rattle.control.specs.declared.State.{State}
 use Rattle.clock.specs.declared.TickOutputs.{TickOutputs}
 use Rattle.clock.specs.declared.Ticked.{Ticked}
-use Rattle.filter.specs.declared.Written.{Written}
+use Rattle.filter.specs.Core.{Written}
 use Rattle.filter.specs.Lent.{Lent}
 use Rattle.turns.specs.declared.TickFed.{TickFed}
 use Rattle.turns.specs.Turns.{turn_start_of, judge_tick_of, core_tick_of}

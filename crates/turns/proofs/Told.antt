@@ -10,7 +10,7 @@ use Rattle.control.specs.declared.State.{State}
 use Rattle.control.specs.Block.{valid_of}
 use Rattle.controls.specs.Judging.{judge_controls_of}
 use Rattle.filter.specs.declared.Core.{Core}
-use Rattle.filter.specs.declared.Written.{Written}
+use Rattle.filter.specs.Core.{Written}
 use Rattle.filter.specs.Lent.{Lent, judge_lent_of}
 use Rattle.filter.specs.Core.{core_start_of}
 use Rattle.filter.specs.Plain.{plain_start}

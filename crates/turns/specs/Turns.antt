@@ -19,7 +19,7 @@ use Rattle.clock.specs.declared.Ticked.{Ticked}
 use Rattle.clock.specs.Transients.{factors_of}
 use Rattle.clock.specs.Clock.{slots_of, clock_of}
 use Rattle.filter.specs.declared.Core.{Core}
-use Rattle.filter.specs.declared.Written.{Written}
+use Rattle.filter.specs.Core.{Written}
 use Rattle.filter.specs.Lent.{Lent, judge_lent_of}
 use Rattle.filter.specs.Core.{core_start_of, judge_take_of}
 use Rattle.turns.specs.declared.TickFed.{TickFed}

@@ -1,19 +1,30 @@
-use mathlib.Core.Path.{◌∙◌}
-use Rattle.filter.specs.Lent.{lent_all}
-use Rattle.filter.specs.Core.{feed_event_of, feed_of}
-use Rattle.filter.proofs.Laws.{feed_judged, fed_goes, fed_refused, decays_unread}
+use mathlib.Core.Path.{sym, ◌∙◌}
+use Rattle.answers.proofs.Laws.{handed_on}
+use Rattle.filter.specs.Core.{feed_of}
+use Rattle.filter.proofs.Laws.{decays_unread}
 use Rattle.filter.proofs.Core.feed.Goals as goal
 
-pub returns-then-is_done : goal.returns-then-is_done
+pub returns-in_err-judge_lent : goal.returns-in_err-judge_lent
 unfolding feed_of
-returns-then-is_done c =
-    let z = c.args in
-    let same = feed_judged z.bundle.now z.curves.now z.decays.now z.self c.judge_lent.ensures c.judge.ensures c.first-known.ensures c.judge_decays.ensures c.first-judged.ensures in
-    fed_goes z.self _ _ same c.is_done.ensures c.if-is_done.true (c.feed_event.ensures ∙ decays_unread z.bundle.now z.curves.now z.decays.now z.self z.event)
+returns-in_err-judge_lent c =
+    let lent = sym c.judge_lent.ensures ∙ c.in_err-judge_lent.was in
+    record { value = handed_on _ c.from_residual.ensures ∙ simp lent; core_after = simp lent }
+
+pub returns-in_err-first : goal.returns-in_err-first
+unfolding feed_of
+returns-in_err-first c =
+    let lent = sym c.judge_lent.ensures ∙ c.in_ok-judge_lent.was in
+    let judged = sym (simp (c.judge.ensures, c.judge_decays.ensures) at c.first.ensures) ∙ c.in_err-first.was in
+    record { value = handed_on _ c.from_residual-in_err-first.ensures ∙ simp (lent, judged); core_after = simp (lent, judged) }
 
 pub returns : goal.returns
 unfolding feed_of
 returns c =
-    let z = c.args in
-    let same = feed_judged z.bundle.now z.curves.now z.decays.now z.self c.judge_lent.ensures c.judge.ensures c.first-known.ensures c.judge_decays.ensures c.first-judged.ensures in
-    fed_refused z.self (feed_event_of (lent_all z.bundle.now z.curves.now z.decays.now) z.self z.event) _ same c.is_done.ensures c.if-is_done.false c.quiet.ensures
+    let a = c.args in
+    let lent = sym c.judge_lent.ensures ∙ c.in_ok-judge_lent.was in
+    let judged = sym (simp (c.judge.ensures, c.judge_decays.ensures) at c.first.ensures) ∙ c.in_ok-first.was in
+    let unread = decays_unread a.bundle.now a.curves.now a.decays.now a.self.now a.event in
+    record {
+      value = simp (lent, judged, ← unread, c.feed_event.ensures.value);
+      core_after = simp (lent, judged, ← unread, c.feed_event.ensures.core_after);
+    }

@@ -1,17 +1,51 @@
+use mathlib.Core.Path.{sym, ◌∙◌}
+use Rattle.answers.proofs.Laws.{handed_on, unless_done, unless_refused, and_refused, and_done}
 use Rattle.filter.specs.Plain.{plain_start}
 use Rattle.filter.proofs.Core.start.Goals as goal
+
+pub returns-in_err-judge_lent : goal.returns-in_err-judge_lent
+unfolding plain_start
+returns-in_err-judge_lent c = handed_on _ c.from_residual.ensures ∙ simp (sym c.judge_lent.ensures ∙ c.in_err-judge_lent.was)
+
+pub returns-in_err-unless : goal.returns-in_err-unless
+unfolding plain_start
+returns-in_err-unless c =
+    let off = unless_refused _ _ (sym c.unless.ensures ∙ c.in_err-unless.was) in
+    handed_on _ c.from_residual-in_err-unless.ensures ∙ simp (sym c.judge_lent.ensures ∙ c.in_ok-judge_lent.was, ← c.is_valid.ensures, off.0, off.1)
+
+pub returns-in_err-judge_decays : goal.returns-in_err-judge_decays
+unfolding plain_start
+returns-in_err-judge_decays c =
+    handed_on _ c.from_residual-in_err-judge_decays.ensures
+    ∙ simp (
+      sym c.judge_lent.ensures ∙ c.in_ok-judge_lent.was,
+      ← c.is_valid.ensures,
+      unless_done _ _ (sym c.unless.ensures ∙ c.in_ok-unless.was),
+      sym c.judge_decays.ensures ∙ c.in_err-judge_decays.was,
+    )
+
+pub returns-in_err-controls : goal.returns-in_err-controls
+unfolding plain_start
+returns-in_err-controls c =
+    handed_on _ c.from_residual-in_err-controls.ensures
+    ∙ simp (
+      sym c.judge_lent.ensures ∙ c.in_ok-judge_lent.was,
+      ← c.is_valid.ensures,
+      unless_done _ _ (sym c.unless.ensures ∙ c.in_ok-unless.was),
+      sym c.judge_decays.ensures ∙ c.in_ok-judge_decays.was,
+      and_refused _ _ (sym c.refresh.ensures ∙ c.in_err-controls.was),
+    )
 
 pub returns : goal.returns
 unfolding plain_start
 returns c =
+    let judged = and_done _ _ (sym c.refresh.ensures ∙ c.in_ok-controls.was) in
     simp (
+      sym c.judge_lent.ensures ∙ c.in_ok-judge_lent.was,
+      ← c.is_valid.ensures,
+      unless_done _ _ (sym c.unless.ensures ∙ c.in_ok-unless.was),
+      sym c.judge_decays.ensures ∙ c.in_ok-judge_decays.was,
+      judged.0,
+      judged.1,
       c.fresh_topology.ensures,
-      c.first.ensures,
-      c.judge_lent.ensures,
-      c.first-judged.ensures,
-      c.first-decayed.ensures,
-      c.judge_decays.ensures,
-      c.unless-valid.ensures,
-      c.is_valid.ensures,
-      c.refresh-fresh.ensures,
     )
