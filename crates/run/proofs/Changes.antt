@@ -5,7 +5,6 @@ use Prim.Native.Nat.{ℕ}
 use mathlib.Core.List.{List}
 use Rattle.answers.specs.declared.Refusal.TheVariants.{Domain}
 use Rattle.answers.specs.Answers.{unless_of, done}
-use Rattle.answers.proofs.Laws.{done_is}
 use Rattle.transients.specs.declared.TransientState.{TransientState}
 use Rattle.transients.specs.Transients.{charge_of, finite_transients_of, finite_charges_of}
 use Rattle.transients.proofs.Laws.{starting_finite, charge_finite}
@@ -15,8 +14,8 @@ use Rattle.control.specs.Registers.{starting_state, of_registers}
 use Rattle.control.specs.Block.{valid_of}
 use Rattle.control.proofs.Valid.{valid_ranges, low_valid, high_valid, routing_valid, mode_valid, starting_valid}
 use Rattle.controls.specs.Judging.{judge_controls_of}
-use Rattle.refresh.specs.declared.Judged.{Judged}
-use Rattle.refresh.specs.Refresh.{judged_of}
+use Rattle.bundle.proofs.Reading.{read_value, read_refused}
+use Rattle.refresh.specs.Refresh.{judged_of, state_gain_of}
 use Rattle.refresh.proofs.Parts.{judged_by_registers}
 use Rattle.script.specs.declared.Event.{Event}
 use Rattle.script.specs.declared.Event.TheVariants.{CutoffLow, CutoffHigh, Routing, Mode, Sample, Reset}
@@ -24,7 +23,8 @@ use Rattle.filter.specs.Lent.{Lent}
 use Rattle.filter.specs.Plain.{judge_change_of, plain_change, plain_step}
 use Rattle.filter.proofs.Demand3.{change_quiet}
 use Rattle.run.specs.Rows.{asked_of, next_of, charges_of, resets_of}
-use Rattle.std.specs.Prelude.{Err, is_ok}
+use Rattle.std.specs.Prelude.{Result, Ok, Err, Float}
+use Rattle.answers.specs.declared.Refusal.{Refusal}
 
 module _ (s : State) (v : valid_of s ≡ true) where
   kept : finite_transients_of s.transients ≡ true
@@ -100,19 +100,19 @@ module _ (s : State) (v : valid_of s ≡ true) where
         go Reset d = refl
 
     -- what the controls refuse is refused
-    pub controls_judged : (bundle : List ℕ) {j : Judged} → j ≡ judged_of bundle (of_registers r) → j ≡ judged_of bundle (next_of s e)
+    pub controls_judged : (bundle : List ℕ) {j : Result Float Refusal} → j ≡ judged_of bundle (of_registers r) → j ≡ judged_of bundle (next_of s e)
     controls_judged bundle is_j = is_j ∙ rw registers_are (judged_by_registers bundle (next_of s e))
 
-    pub controls_refused : (bundle : List ℕ) {j : Judged} → j ≡ judged_of bundle (of_registers r) → is_ok j.answer ≡ false → j.answer ≡ judge_change_of bundle (next_of s e)
+    pub controls_refused : (bundle : List ℕ) {j : Result Float Refusal} → j ≡ judged_of bundle (of_registers r) → (refusal : Refusal) → j ≡ Err refusal → Err refusal ≡ judge_change_of bundle (next_of s e)
     unfolding judge_change_of
-    controls_refused bundle {j} is_j h =
-        let is = ap (λ (x : Judged). x.answer) (controls_judged bundle is_j) in
-        let off : is_ok (judge_controls_of bundle (next_of s e)) ≡ false = ap is_ok (sym is) ∙ h in
-        is ∙ rw off refl
+    controls_refused bundle is_j refusal h = rw (read_refused _ _ (sym h ∙ controls_judged bundle is_j)) refl
 
-    module _ (bundle : List ℕ) {j : Judged} (is_j : j ≡ judged_of bundle (of_registers r)) (done : is_ok j.answer ≡ true) where
+    module _ (bundle : List ℕ) {j : Result Float Refusal} (is_j : j ≡ judged_of bundle (of_registers r)) {gain : Float} (judged : j ≡ Ok gain) where
       controls_done : judge_controls_of bundle (next_of s e) ≡ done
-      controls_done = ap (λ (x : Judged). x.answer) (sym (controls_judged bundle is_j)) ∙ done_is j.answer done
+      controls_done = (read_value _ _ (sym judged ∙ controls_judged bundle is_j)).0
+
+      pub gain_told : gain ≡ state_gain_of bundle (next_of s e)
+      gain_told = (read_value _ _ (sym judged ∙ controls_judged bundle is_j)).1
 
       -- an event that charges nothing
       pub quiet_judged : charges_of e ≡ false → judge_change_of bundle (next_of s e) ≡ done

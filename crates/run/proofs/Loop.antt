@@ -20,7 +20,6 @@ use Rattle.control.proofs.Valid.{valid_ranges}
 use Rattle.controls.specs.declared.ControlCache.{ControlCache}
 use Rattle.controls.specs.Controls.{refresh_filter_controls_of, controls_of}
 use Rattle.refresh.specs.Refresh.{state_gain_of}
-use Rattle.refresh.proofs.Parts.{state_gain}
 use Rattle.sample.specs.declared.Outputs.{Outputs}
 use Rattle.sample.specs.declared.Sampled.{Sampled}
 use Rattle.sample.specs.Sample.{summer_slot_of, filter_sample_of}
@@ -34,14 +33,13 @@ use Rattle.script.proofs.Cut.{length_slices, length_events}
 use Rattle.filter.specs.Lent.{Lent}
 use Rattle.filter.specs.Core.{fresh_topology_of, with_integrator}
 use Rattle.filter.specs.Plain.{Plain, refused_at, judge_change_of, plain_change, plain_taken, judge_plain, plain_sampled, plain_sample, plain_step}
-use Rattle.filter.proofs.Demand3.{refuses, sample_refuses, sample_plain}
-use Rattle.run.specs.declared.Asked.{Asked}
+use Rattle.filter.proofs.Demand3.{sample_plain}
 use Rattle.run.specs.declared.Row.{Row}
 use Rattle.run.specs.declared.Moved.{Moved}
 use Rattle.run.specs.declared.Resting.{Resting}
 use Rattle.run.specs.declared.Played.{Played}
 use Rattle.run.specs.Run.{Ran, stopped, went, play_of, sample_bytes}
-use Rattle.run.specs.Rows.{Samples, Moves, asked_of, no_samples, one_more, row_on, row_of, moves_of, row_end, play_end}
+use Rattle.run.specs.Rows.{Asked, Samples, Moves, asked_of, no_samples, one_more, row_on, row_of, moves_of, row_end, play_end}
 use Rattle.run.specs.Parts.{parts_of, cache_of_parts, samples_from, moves_end, resting_of}
 use Rattle.run.proofs.Bytes.{length_outputs, outputs_append}
 use Rattle.run.proofs.Good.{Good, good_step}
@@ -164,14 +162,6 @@ module _ (lent : Lent) where
   unfolding controls_of
   moved s j es law = law
 
-  off : (x : Result Sampled Refusal) (answer : Answer) → refuses x ≡ true → x ≡ Err answer → is_ok answer ≡ false
-  unfolding refuses
-  off x answer r h = go (is_ok answer) (sym (ap refuses h) ∙ r)
-    where
-      go : (d : Bool) → not d ≡ true → d ≡ false
-      go true n = absurd (true≢false (sym n))
-      go false n = refl
-
   pub row_law : (s : State) (es : List Event) → Good lent s → RowLaw s es (fresh_row s es)
   unfolding row_of
   row_law s [] good = quiet_row s good [] (λ e fs p. cc)
@@ -189,13 +179,12 @@ module _ (lent : Lent) where
       go : (x : Result Sampled Refusal) → fresh_sample s sum energy ≡ x
           → ((t : State) → Good lent t → RowLaw t es (fresh_row t es))
           → RowLaw s (Sample sum energy ∷ es) (row_on (λ j. row_at s j es) s.integrator x)
-      go (Ok (record { outputs = o; state = j })) h on =
-          let p = plain (Ok (record { outputs = o; state = j })) h in
+      go (Ok t) h on =
+          let j = t.state in
+          let p = plain (Ok t) h in
           let g : Good lent (with_integrator s j) = subst (λ (x : Plain). Good lent x.state) p (good_step lent s (Sample sum energy) good) in
-          taken_row s good sum energy es o j p (row_at s j es) (moved s j es (on (with_integrator s j) g))
-      go (Err answer) h on =
-          refused_row s good (Sample sum energy) es answer (off _ answer (sample_refuses lent.bundle lent.curves _ _ _ _ s.integrator sum energy) h)
-          (ap (λ (x : Plain). x.answer) (plain (Err answer) h))
+          taken_row s good sum energy es t.outputs j p (row_at s j es) (moved s j es (on (with_integrator s j) g))
+      go (Err refusal) h on = refused_row s good (Sample sum energy) es (Err refusal) refl (ap (λ (x : Plain). x.answer) (plain (Err refusal) h))
 
 -- ---- samples that an event gives
 
@@ -215,7 +204,7 @@ no_sample lent s (Sample sum energy) h = absurd (true≢false h)
 no_sample lent s Reset h = change_quiet lent s starting_state
 
 sample_few : (s : State) (d : Bool) (x : Result Sampled Refusal) (a : Answer) → length (cond d (plain_taken s x) (refused_at s a)).sample ≤ 1
-sample_few s true (Ok (record { outputs = o; state = j })) a = omega arith
+sample_few s true (Ok t) a = omega arith
 sample_few s true (Err b) a = omega arith
 sample_few s false x a = omega arith
 
@@ -263,11 +252,8 @@ row_same_samples bundle curves t c d mode same i (e ∷ es) =
   where
     on : (z : Result Sampled Refusal) → ((j : IntegratorState) → row_of bundle curves t c mode j es ≡ row_of bundle curves t d mode j es)
         → row_on (λ j. row_of bundle curves t c mode j es) i z ≡ row_on (λ j. row_of bundle curves t d mode j es) i z
-    on (Ok (record { outputs = o; state = j })) later = ap (one_more o) (later j)
+    on (Ok t) later = ap (one_more t.outputs) (later t.state)
     on (Err answer) later = refl
-
-small : (s : State) → valid_of s ≡ true → s.registers.resonance < 256
-small s v = let r = (valid_ranges s v).resonance in omega arith
 
 parts_sample : (lent : Lent) (s : State) → Good lent s → (j : IntegratorState) (sum energy : Float)
     → filter_sample_of lent.bundle lent.curves (summer_slot_of (fresh_topology_of s)) (fresh_topology_of s) (cache_of_parts (parts_of lent.bundle s)) s.registers.mode j sum energy
@@ -275,8 +261,7 @@ parts_sample : (lent : Lent) (s : State) → Good lent s → (j : IntegratorStat
 unfolding parts_of controls_of refresh_filter_controls_of
 parts_sample lent s good j sum energy =
     sym (parts_are_sample lent.bundle lent.curves (summer_slot_of (fresh_topology_of s)) (fresh_topology_of s) (cache_of_parts (parts_of lent.bundle s)) s.registers.mode j sum energy)
-    ∙ rw (state_gain lent.bundle s (small s good.valid) (ap is_ok good.judged))
-    (parts_are_sample lent.bundle lent.curves (summer_slot_of (fresh_topology_of s)) (fresh_topology_of s) (controls_of lent.bundle s) s.registers.mode j sum energy)
+    ∙ (parts_are_sample lent.bundle lent.curves (summer_slot_of (fresh_topology_of s)) (fresh_topology_of s) (controls_of lent.bundle s) s.registers.mode j sum energy)
 
 -- ---- the loop
 

@@ -2,7 +2,7 @@
 use Prim.Native.Nat.{ℕ, zero, suc, ◌+◌, ◌*◌, ◌≤◌, ◌<◌}
 use native.Mathlib.Omega.{arith}
 use native.Mathlib.Nat.{zero-add, add-zero}
-use mathlib.Core.Path.{◌≡◌, refl, sym, ap, ◌∙◌}
+use mathlib.Core.Path.{◌≡◌, refl, sym, ap, subst, ◌∙◌}
 use mathlib.Core.Bool.{Bool, true, false, cond, true≢false}
 use mathlib.Core.List.{List, [], ◌∷◌}
 use lib.ListN.{length, drop}
@@ -16,8 +16,8 @@ use Rattle.control.specs.declared.FilterRegisters.{FilterRegisters}
 use Rattle.control.specs.declared.State.{State}
 use Rattle.control.specs.Registers.{starting_state, of_registers}
 use Rattle.control.specs.Block.{valid_of}
-use Rattle.refresh.specs.declared.Judged.{Judged}
 use Rattle.controls.specs.Judging.{judge_controls_of}
+use Rattle.bundle.specs.Reading.{read_of}
 use Rattle.refresh.specs.Refresh.{state_gain_of, judged_of}
 use Rattle.refresh.proofs.Parts.{judged_by_registers}
 use Rattle.script.specs.declared.Event.{Event}
@@ -27,14 +27,14 @@ use Rattle.script.proofs.Laws.{slices_from, all_next, events_next, all_stop, eve
 use Rattle.filter.specs.Lent.{Lent}
 use Rattle.filter.specs.Plain.{judge_change_of, plain_change, plain_step}
 use Rattle.filter.proofs.Demand3.{change_parts}
-use Rattle.run.specs.declared.Asked.{Asked}
 use Rattle.run.specs.declared.Moved.{Moved}
 use Rattle.run.specs.Run.{Ran, went, play_of}
 use Rattle.run.specs.Rows.{Moves, asked_of, next_of, charges_of, resets_of, no_moves, one_move, moves_of}
 use Rattle.run.specs.Parts.{From, done_with, moves_end}
-use Rattle.run.proofs.Changes.{next_valid, with_next, quiet_next, charged_next, reset_next, controls_judged, controls_refused, quiet_judged, charge_judged, plain_is}
+use Rattle.run.proofs.Changes.{next_valid, with_next, quiet_next, charged_next, reset_next, controls_judged, controls_refused, quiet_judged, charge_judged, gain_told, plain_is}
 use Rattle.run.proofs.Good.{Good}
-use Rattle.std.specs.Prelude.{Err, is_ok, Some, None}
+use Rattle.std.specs.Prelude.{Result, Ok, Err, is_ok, Some, None}
+use Rattle.answers.specs.declared.Refusal.{Refusal}
 
 -- ---- the loop
 
@@ -61,50 +61,54 @@ module _ (bundle script : List ℕ) (count start : ℕ) (from : State) where
     abbrev Ends : Answer → Type 0
     Ends answer = ◌≡◌ {A = Moved} (record { answer = answer; events = i; state = s; gain = g }) (moves_end bundle start (moves from start))
 
+    read_done : judge_controls_of bundle s ≡ done → g ≡ state_gain_of bundle s → judged_of bundle s ≡ done_with g
+    unfolding read_of
+    read_done judged gained = rw (judged, gained) refl
+
     pub known : judged_of bundle (of_registers s.registers) ≡ done_with g
-    known = judged_by_registers bundle s ∙ rw (far.judged, far.gained) refl
+    known = judged_by_registers bundle s ∙ read_done far.judged far.gained
 
     stops : (answer : Answer) → moves s i ≡ no_moves answer s → Ends answer
     stops answer h = rw far.gained (sym (ap (moves_end bundle i) h ∙ rw (add-zero i) refl) ∙ far.ends)
 
-    pub at_end : count ≤ i → Ends done
+    pub at_end : count ≤ i → ◌≡◌ {A = Moved} (record { answer = done; events = count; state = s; gain = g }) (moves_end bundle start (moves from start))
     unfolding moves_of
-    at_end h = stops done (ap (moves_of bundle s) (events_end script count i h))
+    at_end h =
+        let within = far.within in
+        let last : i ≡ count = omega arith in
+        subst (λ (n : ℕ). ◌≡◌ {A = Moved} (record { answer = done; events = n; state = s; gain = g }) (moves_end bundle start (moves from start))) last
+        (stops done (ap (moves_of bundle s) (events_end script count i h)))
 
     module _ (more : i < count) where
       pub unreadable : event_at script (8 + 12 * i) ≡ None → ⊥
       unreadable h = true≢false (sym far.readable ∙ all_stop script count i more h)
 
-      module _ (e : Event) (is_e : event_at script (8 + 12 * i) ≡ Some e) {ask : Asked} (asks : ask ≡ asked_of e) where
-        asked_is : (b : Bool) → ask.sample ≡ b → (asked_of e).sample ≡ b
-        asked_is b h = ap (λ (a : Asked). a.sample) (sym asks) ∙ h
+      module _ (e : Event) (is_e : event_at script (8 + 12 * i) ≡ Some e) {wanted : Bool} (asks : wanted ≡ (asked_of e).sample) where
+        asked_is : (b : Bool) → wanted ≡ b → (asked_of e).sample ≡ b
+        asked_is b h = sym asks ∙ h
 
         next : left i ≡ e ∷ left (i + 1)
         next = events_next script count i more e is_e
 
-        pub sampled : ask.sample ≡ true → Ends done
+        pub sampled : wanted ≡ true → Ends done
         unfolding moves_of
         sampled a = stops done (ap (moves_of bundle s) next ∙ rw (asked_is true a) refl)
 
-        module _ (other : ask.sample ≡ false) {r : FilterRegisters} (is_r : r ≡ (next_of (of_registers s.registers) e).registers) {j : Judged} (is_j : j ≡ judged_of bundle (of_registers r))
-            {d : Bool} (is_d : d ≡ is_ok j.answer) where
+        module _ (other : wanted ≡ false) {r : FilterRegisters} (is_r : r ≡ (next_of (of_registers s.registers) e).registers) {j : Result Float Refusal} (is_j : j ≡ judged_of bundle (of_registers r)) where
           -- refused, with what is judged of the event
           refuses : (answer : Answer) → answer ≡ judge_change_of bundle (next_of s e) → is_ok answer ≡ false → Ends answer
           unfolding moves_of
           refuses answer is off = stops answer (ap (moves_of bundle s) next ∙ rw (asked_is false other, ← is, off) refl)
 
-          pub refused : d ≡ false → Ends j.answer
-          refused h = let off = sym is_d ∙ h in refuses j.answer (controls_refused s far.valid e is_r bundle is_j off) off
+          pub refused : (refusal : Refusal) → j ≡ Err refusal → Ends (Err refusal)
+          refused refusal h = refuses (Err refusal) (controls_refused s far.valid e is_r bundle is_j refusal h) refl
 
-          module _ (done : d ≡ true) where
-            passed : is_ok j.answer ≡ true
-            passed = sym is_d ∙ done
-
+          module _ {gain : Float} (passed : j ≡ Ok gain) where
             -- the state after a turn, with the registers put in last
             abbrev after : State → State
             after x = with_next s far.valid e is_r x
 
-            goes : (x : State) → x ≡ next_of s e → judge_change_of bundle (next_of s e) ≡ done → Sofar x j.gain (i + 1)
+            goes : (x : State) → x ≡ next_of s e → judge_change_of bundle (next_of s e) ≡ done → Sofar x gain (i + 1)
             unfolding moves_of
             goes x is judged =
                 let n = next_of s e in
@@ -117,7 +121,7 @@ module _ (bundle script : List ℕ) (count start : ℕ) (from : State) where
                   readable = sym (all_next script count i more e is_e) ∙ far.readable;
                   valid = next_valid s far.valid e parts.1;
                   judged = parts.0;
-                  gained = ap (λ (x : Judged). x.gain) (controls_judged s far.valid e is_r bundle is_j);
+                  gained = gain_told s far.valid e is_r bundle is_j passed;
                   ends = rw events (sym (ap (moves_end bundle i) whole) ∙ far.ends);
                 })
 
@@ -136,8 +140,8 @@ module _ (bundle script : List ℕ) (count start : ℕ) (from : State) where
                 judged_by : judge_change_of bundle (next_of s e) ≡ unless_of f Domain
                 judged_by = charge_judged s far.valid e is_r bundle is_j passed (sym is_charges ∙ h) is_t ∙ rw is_f refl
 
-                pub overflows : f ≡ false → Ends Domain
-                overflows off = refuses Domain (sym (judged_by ∙ rw off refl)) refl
+                pub overflows : f ≡ false → Ends (Err Domain)
+                overflows off = refuses (Err Domain) (sym (judged_by ∙ rw off refl)) refl
 
                 pub charge_goes : f ≡ true → {x : State} → x ≡ record { registers = s.registers; integrator = s.integrator; transients = t } → Charged x
                 charge_goes on is =
@@ -147,11 +151,11 @@ module _ (bundle script : List ℕ) (count start : ℕ) (from : State) where
                     }
 
               module _ {x : State} (charged : Charged x) {resets : Bool} (is_resets : resets ≡ resets_of e) where
-                pub reset_none : resets ≡ false → {y : State} → y ≡ x → Sofar (after y) j.gain (i + 1)
+                pub reset_none : resets ≡ false → {y : State} → y ≡ x → Sofar (after y) gain (i + 1)
                 reset_none h {y} is = goes (after y) (ap after is ∙ charged.same (sym is_resets ∙ h)) charged.judged
 
                 pub reset_goes : resets ≡ true → {n : State} → n ≡ starting_state → {y : State} → y ≡ record { registers = x.registers; integrator = n.integrator; transients = n.transients }
-                    → Sofar (after y) j.gain (i + 1)
+                    → Sofar (after y) gain (i + 1)
                 reset_goes h is_n {y} is = goes (after y) (ap after is ∙ rw is_n (reset_next s far.valid e is_r (sym is_resets ∙ h))) charged.judged
 
 -- ---- the row is the plain machine's

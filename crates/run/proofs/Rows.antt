@@ -2,7 +2,7 @@
 use Prim.Native.Nat.{ℕ, suc, ◌+◌, ◌*◌, ◌≤◌, ◌<◌}
 use native.Mathlib.Omega.{arith}
 use native.Mathlib.Nat.{add-zero}
-use mathlib.Core.Path.{◌≡◌, refl, sym, ap, ◌∙◌}
+use mathlib.Core.Path.{◌≡◌, refl, sym, ap, subst, ◌∙◌}
 use mathlib.Core.Bool.{Bool, true, false, cond, true≢false}
 use mathlib.Core.List.{List, [], ◌∷◌}
 use lib.ListN.{length}
@@ -25,10 +25,9 @@ use Rattle.script.specs.declared.Event.{Event}
 use Rattle.script.specs.declared.Event.TheVariants.{CutoffLow, CutoffHigh, Routing, Mode, Sample, Reset}
 use Rattle.script.specs.Script.{event_at, all_readable, events_in, sample_count_of, samples_of}
 use Rattle.script.proofs.Laws.{slices_from, all_next, events_next, all_stop, events_end}
-use Rattle.run.specs.declared.Asked.{Asked}
 use Rattle.run.specs.declared.Row.{Row}
 use Rattle.run.specs.Run.{output_bytes, sample_bytes}
-use Rattle.run.specs.Rows.{Samples, asked_of, sample_first, no_samples, one_more, row_on, row_of, row_end}
+use Rattle.run.specs.Rows.{Asked, Samples, asked_of, sample_first, no_samples, one_more, row_on, row_of, row_end}
 use Rattle.run.proofs.Bytes.{length_outputs, length_output}
 use Rattle.answers.specs.Answers.{Answer, done}
 use Rattle.std.specs.Prelude.{Result, Ok, Err, Some, None}
@@ -59,6 +58,15 @@ asked_one (Mode v) h = absurd (true≢false (sym h))
 asked_one (Sample sum energy) h = refl
 asked_one Reset h = absurd (true≢false (sym h))
 
+-- an event that is no sample
+pub not_sample : (e : Event) → ((sum energy : Float) → e ≡ Sample sum energy → ⊥) → (asked_of e).sample ≡ false
+not_sample (CutoffLow v) h = refl
+not_sample (CutoffHigh v) h = refl
+not_sample (Routing v) h = refl
+not_sample (Mode v) h = refl
+not_sample (Sample sum energy) h = absurd (h sum energy refl)
+not_sample Reset h = refl
+
 module _ (bundle curves : List ℕ) (t : MixingTopology) (c : ControlCache) (mode : ℕ) where
   abbrev row : IntegratorState → List Event → Samples
   row i es = row_of bundle curves t c mode i es
@@ -72,9 +80,9 @@ module _ (bundle curves : List ℕ) (t : MixingTopology) (c : ControlCache) (mod
     unfolding row_of
     row_taken a o j h = rw (a, h) refl
 
-    row_refused : (asked_of e).sample ≡ true → (answer : Answer) → sampled ≡ Err answer → row i (e ∷ es) ≡ no_samples answer i
+    row_refused : (asked_of e).sample ≡ true → (refusal : Refusal) → sampled ≡ Err refusal → row i (e ∷ es) ≡ no_samples (Err refusal) i
     unfolding row_of
-    row_refused a answer h = rw (a, h) refl
+    row_refused a refusal h = rw (a, h) refl
 
     row_other : (asked_of e).sample ≡ false → row i (e ∷ es) ≡ no_samples done i
     unfolding row_of
@@ -92,7 +100,7 @@ module _ (bundle curves : List ℕ) (t : MixingTopology) (c : ControlCache) (mod
     where
       go : (a : Bool) → (asked_of e).sample ≡ a → (x : Result Sampled Refusal) → ((j : IntegratorState) → length (row_of bundle curves t c mode j es).outputs ≤ samples_of es)
           → length (cond a (row_on (λ j. row_of bundle curves t c mode j es) i x) (no_samples done i)).outputs ≤ sample_count_of e + samples_of es
-      go true h (Ok (record { outputs = o; state = j })) later = omega (arith, later j, asked_one e h)
+      go true h (Ok t) later = omega (arith, later t.state, asked_one e h)
       go true h (Err answer) later = omega arith
       go false h x later = omega arith
 
@@ -125,10 +133,14 @@ module _ (bundle curves : List ℕ) (t : MixingTopology) (c : ControlCache) (mod
       )
 
       pub at_end : count ≤ i
-          → (◌≡◌ {A = Row} (record { answer = done; events = i; samples = samples; integrator = j }) (row_end start before (row from (left start))))
+          → (◌≡◌ {A = Row} (record { answer = done; events = count; samples = samples; integrator = j }) (row_end start before (row from (left start))))
           × (out ≡ put_at out₀ (16 * before) (sample_bytes (row from (left start)).outputs))
       unfolding row_of
-      at_end h = stops done (ap (row j) (events_end script count i h))
+      at_end h =
+          let within = far.within in
+          let last : i ≡ count = omega arith in
+          let told = stops done (ap (row j) (events_end script count i h)) in
+          (subst (λ (n : ℕ). ◌≡◌ {A = Row} (record { answer = done; events = n; samples = samples; integrator = j }) (row_end start before (row from (left start)))) last told.0, told.1)
 
       -- no sample is next
       pub none_next : sample_first (left i) ≡ false
@@ -159,10 +171,10 @@ module _ (bundle curves : List ℕ) (t : MixingTopology) (c : ControlCache) (mod
               × (out ≡ put_at out₀ (16 * before) (sample_bytes (row from (left start)).outputs))
           other a = stops done (ap (row j) next ∙ row_other j e (left (i + 1)) (asked_is false a))
 
-          pub refused : ask.sample ≡ true → (answer : Answer) {x : Result Sampled Refusal} → x ≡ taken → x ≡ Err answer
-              → (◌≡◌ {A = Row} (record { answer = answer; events = i; samples = samples; integrator = j }) (row_end start before (row from (left start))))
+          pub refused : ask.sample ≡ true → (refusal : Refusal) {x : Result Sampled Refusal} → x ≡ taken → x ≡ Err refusal
+              → (◌≡◌ {A = Row} (record { answer = Err refusal; events = i; samples = samples; integrator = j }) (row_end start before (row from (left start))))
               × (out ≡ put_at out₀ (16 * before) (sample_bytes (row from (left start)).outputs))
-          refused a answer p h = stops answer (ap (row j) next ∙ row_refused j e (left (i + 1)) (asked_is true a) answer (sample_is (Err answer) (sym p ∙ h)))
+          refused a refusal p h = stops (Err refusal) (ap (row j) next ∙ row_refused j e (left (i + 1)) (asked_is true a) refusal (sample_is (Err refusal) (sym p ∙ h)))
 
           pub turned : ask.sample ≡ true → (o : Outputs) (k : IntegratorState) {x : Result Sampled Refusal} → x ≡ taken → x ≡ Ok (record { outputs = o; state = k }) → Sofar (put_at out (16 * samples) (output_bytes o)) k (samples + 1) (i + 1)
           unfolding samples_of sample_bytes

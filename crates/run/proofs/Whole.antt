@@ -34,7 +34,11 @@ use Rattle.run.specs.Run.{Ran, stopped, went, play_of, played_of, sample_bytes, 
 use Rattle.run.specs.Rows.{play_end, ended_of}
 use Rattle.run.proofs.Bytes.{length_outputs}
 use Rattle.run.proofs.Loop.{played_few}
-use Rattle.std.specs.Prelude.{Err, is_ok, Option, Some, None, Result, Ok}
+use Rattle.std.specs.Prelude.{Err, is_ok, Option, Some, None, Result, Ok, Float}
+use Rattle.answers.proofs.Laws.{and_done, and_refused}
+use Rattle.bundle.proofs.Reading.{read_value, read_refused}
+use Rattle.refresh.specs.Refresh.{judged_of}
+use Rattle.run.specs.Rows.{judged_state_of}
 use Rattle.answers.specs.declared.Refusal.{Refusal}
 
 -- ---- the script
@@ -47,21 +51,21 @@ module _ (script : List ℕ) (room : ℕ) where
       go true h = let le = leb-true n (room / 16) h in sym (le-leb (16 * n) room (omega arith))
       go false h = let lt = leb-false n (room / 16) h in sym (lt-leb (16 * n) room (omega arith))
 
-  pub script_formed : (events samples : ℕ) {x : Result Checked Refusal} → x ≡ check_script_of script → x ≡ Ok (record { events = events; samples = samples }) → unless_of (leb samples (room / 16)) OutputLength ≡ judge_script_of script room
+  pub script_formed : (told : Checked) {x : Result Checked Refusal} → x ≡ check_script_of script → x ≡ Ok told → unless_of (leb told.samples (room / 16)) OutputLength ≡ judge_script_of script room
   unfolding check_script_of judge_script_of
-  script_formed events samples e h = go (well_formed script) refl (sym e ∙ h)
+  script_formed told e h = go (well_formed script) refl (sym e ∙ h)
     where
-      go : (t : Bool) → well_formed script ≡ t → cond t (Ok (record { events = (event_count_of script); samples = (samples_of (events_of script)) })) (Err Script) ≡ Ok (record { events = events; samples = samples })
-          → unless_of (leb samples (room / 16)) OutputLength ≡ first_of (unless_of t Script) (unless_of (leb (16 * samples_of (events_of script)) room) OutputLength)
-      go true w p = let n : samples ≡ samples_of (events_of script) = cc in rw (n, fits_is (samples_of (events_of script))) refl
+      go : (t : Bool) → well_formed script ≡ t → cond {A = Result Checked Refusal} t (Ok (record { events = event_count_of script; samples = samples_of (events_of script) })) (Err Script) ≡ Ok told
+          → unless_of (leb told.samples (room / 16)) OutputLength ≡ first_of (unless_of t Script) (unless_of (leb (16 * samples_of (events_of script)) room) OutputLength)
+      go true w p = let same : ◌≡◌ {A = Checked} (record { events = event_count_of script; samples = samples_of (events_of script) }) told = cc in rw (← ap (λ (c : Checked). c.samples) same, fits_is (samples_of (events_of script))) refl
       go false w p = cc
 
-  pub script_refused : (answer : Answer) {x : Result Checked Refusal} → x ≡ check_script_of script → x ≡ Err answer → answer ≡ judge_script_of script room
+  pub script_refused : (refusal : Refusal) {x : Result Checked Refusal} → x ≡ check_script_of script → x ≡ Err refusal → Err refusal ≡ judge_script_of script room
   unfolding check_script_of judge_script_of
-  script_refused answer e h = go (well_formed script) refl (sym e ∙ h)
+  script_refused refusal e h = go (well_formed script) refl (sym e ∙ h)
     where
-      go : (t : Bool) → well_formed script ≡ t → cond t (Ok (record { events = (event_count_of script); samples = (samples_of (events_of script)) })) (Err Script) ≡ Err answer
-          → answer ≡ first_of (unless_of t Script) (unless_of (leb (16 * samples_of (events_of script)) room) OutputLength)
+      go : (t : Bool) → well_formed script ≡ t → cond {A = Result Checked Refusal} t (Ok (record { events = (event_count_of script); samples = (samples_of (events_of script)) })) (Err Script) ≡ Err refusal
+          → Err refusal ≡ first_of (unless_of t Script) (unless_of (leb (16 * samples_of (events_of script)) room) OutputLength)
       go true w p = cc
       go false w p = cc
 
@@ -80,24 +84,21 @@ module _ (script : List ℕ) (room : ℕ) (fine : judge_script_of script room �
 
 -- ---- the start, from a valid state
 
-module _ (lent : Lent) (script : List ℕ) (s : State) (valid : valid_of s ≡ true) {a : Answer} (is : a ≡ judge_controls_of lent.bundle s) {d : Bool} (is_d : d ≡ is_ok a) where
-  done_here : (v : Bool) → d ≡ v → is_ok (judge_controls_of lent.bundle s) ≡ v
-  done_here v h = ap is_ok (sym is) ∙ sym is_d ∙ h
-
+module _ (lent : Lent) (script : List ℕ) (s : State) (valid : valid_of s ≡ true) where
   -- refused by its controls
-  pub start_stops : d ≡ false → (output : List ℕ)
-      → (◌≡◌ {A = Played} (record { answer = a; events = 0; samples = 0; state = s }) (play_end 0 0 (played_of lent s (events_of script))))
+  pub start_stops : (refusal : Refusal) → judged_of lent.bundle s ≡ Err refusal → (output : List ℕ)
+      → (◌≡◌ {A = Played} (record { answer = Err refusal; events = 0; samples = 0; state = s }) (play_end 0 0 (played_of lent s (events_of script))))
       × (output ≡ play_put output (played_of lent s (events_of script)))
   unfolding played_of sample_bytes
-  start_stops f output = rw (is, done_here false f) (refl, sym (put_at_nil output 0))
+  start_stops refusal h output = rw (read_refused _ _ (sym h)) (refl, sym (put_at_nil output 0))
 
-  module _ (t : d ≡ true) {count : ℕ} (c : count ≡ u32_at script 0) where
+  module _ {gain : Float} (judged : judged_of lent.bundle s ≡ Ok gain) {count : ℕ} (c : count ≡ u32_at script 0) where
     first_is : slices_from script count 0 ≡ slices_of script
     first_is = rw (c, sub-zero (event_count_of script)) refl
 
     pub start_plays : play_from lent s script count ≡ played_of lent s (events_of script)
     unfolding played_of
-    start_plays = rw (done_here true t, first_is) refl
+    start_plays = rw ((read_value _ _ (sym judged)).0, first_is) refl
 
     module _ (output : List ℕ) (fine : judge_script_of script (length output) ≡ done) where
       pub start_ahead : Ahead script count 0
@@ -108,21 +109,12 @@ module _ (lent : Lent) (script : List ℕ) (s : State) (valid : valid_of s ≡ t
       pub start_room : Room script count 0 output 0
       start_room = record { fewer = omega arith; room = rw (first_is, zero-add (samples_of (events_of script))) (fitting script (length output) fine) }
 
-    pub start_from : {gain : Float} → gain ≡ state_gain_of lent.bundle s → From lent.bundle s gain
-    start_from g = record { valid = valid; judged = done_is (judge_controls_of lent.bundle s) (done_here true t); gained = g }
+    pub start_from : From lent.bundle s gain
+    start_from = let read = read_value _ _ (sym judged) in record { valid = valid; judged = read.0; gained = read.1 }
 
 -- ---- what is judged before the controls
 
 module _ (lent : Lent) (block script : List ℕ) (room : ℕ) where
-  pub judged_invalid : {x : Option State} → x ≡ decode_of block → x ≡ None → first_of (judge_lent_of lent) Argument ≡ judge_run_of lent block script room
-  unfolding judge_run_of
-  judged_invalid e h = rw (sym e ∙ h) refl
-
-  pub judged_valid : (s : State) {x : Option State} → x ≡ decode_of block → x ≡ Some s
-      → first_of (judge_lent_of lent) (first_of (judge_decays_of lent.decays) (judge_script_of script room)) ≡ judge_run_of lent block script room
-  unfolding judge_run_of
-  judged_valid s e h = rw (sym e ∙ h) refl
-
   module _ (judged : judge_run_of lent block script room ≡ done) where
     pub parts : (judge_lent_of lent ≡ done) × (judge_block_of block ≡ done) × (judge_decays_of lent.decays ≡ done) × (judge_script_of script room ≡ done)
     unfolding judge_run_of
@@ -181,49 +173,29 @@ module _ (lent : Lent) (block script output : List ℕ) (judged : judge_run_of l
       rw (put, left, is, judged, eq-eqb (length block) 68 (block_long lent block script (length output) judged), zero-add ran.events, zero-add (length ran.samples))
       (refl, (refl, front))
 
--- from the state that the block stands for
-module _ (lent : Lent) (block script : List ℕ) (s : State) {x : Option State} (e : x ≡ decode_of block) (h : x ≡ Some s) where
-  module _ (room : ℕ) {a : Answer} (is_a : a ≡ first_of (judge_lent_of lent) (first_of (judge_decays_of lent.decays) (judge_script_of script room))) where
-    pub valid_judged : a ≡ judge_run_of lent block script room
-    valid_judged = is_a ∙ judged_valid lent block script room s e h
+-- from the state that it starts from
+module _ (lent : Lent) (block script output : List ℕ) {s : State} (judged : judged_state_of lent block script (length output) ≡ Ok s) where
+  abbrev state_judged : (judge_run_of lent block script (length output) ≡ done) × (fields_of block ≡ s)
+  state_judged = and_done _ _ judged
 
-    pub valid_fine : a ≡ done → (valid_of s ≡ true) × (judge_script_of script room ≡ done)
-    valid_fine done =
-        let later = (first_done (judge_lent_of lent) _ (sym is_a ∙ done)).1 in
-        ((decoded block s (sym e ∙ h)).valid, (first_done (judge_decays_of lent.decays) (judge_script_of script room) later).1)
+  pub state_fine : (valid_of s ≡ true) × (judge_script_of script (length output) ≡ done)
+  state_fine =
+      let j = state_judged.0 in
+      (rw (← state_judged.1) (decoded block (fields_of block) (block_valid lent block script (length output) j)).valid, (parts lent block script (length output) j).3)
 
-  pub valid_done : (output : List ℕ) {a : Answer} → a ≡ first_of (judge_lent_of lent) (first_of (judge_decays_of lent.decays) (judge_script_of script (length output))) → a ≡ done
-      → {p : Played} → p ≡ play_end 0 0 (played_of lent s (events_of script)) → {after state : List ℕ}
+  pub state_done : {p : Played} → p ≡ play_end 0 0 (played_of lent s (events_of script)) → {after state : List ℕ}
       → after ≡ play_put output (played_of lent s (events_of script)) → state ≡ encode_of p.state block
       → (◌≡◌ {A = Ended} (record { answer = p.answer; events = p.events; samples = p.samples }) (ended_of (run_of lent block script output)))
       × ((state ≡ (run_of lent block script output).state) × (after ≡ (run_of lent block script output).output))
-  valid_done output is_a done is put left =
-      let f = (decoded block s (sym e ∙ h)).fields in
-      run_done lent block script output (sym (valid_judged (length output) is_a) ∙ done) (rw f is) (rw f put) left
+  state_done is put left = run_done lent block script output state_judged.0 (rw state_judged.1 is) (rw state_judged.1 put) left
 
-never_done : (l : Answer) → is_ok (first_of l Argument) ≡ false
-never_done l = go (is_ok l) refl
-  where
-    go : (d : Bool) → is_ok l ≡ d → is_ok (cond d Argument l) ≡ false
-    go true h = refl
-    go false h = h
-
+-- turned back
 pub run_refused :
-    (lent : Lent) (block script output : List ℕ) {a : Answer} → a ≡ judge_run_of lent block script (length output) → is_ok a ≡ false
-    → (◌≡◌ {A = Ended} (record { answer = a; events = 0; samples = 0 }) (ended_of (run_of lent block script output)))
+    (lent : Lent) (block script output : List ℕ) {refusal : Refusal} → judged_state_of lent block script (length output) ≡ Err refusal
+    → (◌≡◌ {A = Ended} (record { answer = Err refusal; events = 0; samples = 0 }) (ended_of (run_of lent block script output)))
     × ((block ≡ (run_of lent block script output).state) × (output ≡ (run_of lent block script output).output))
 unfolding run_of
-run_refused lent block script output is off =
-    let d : is_ok (judge_run_of lent block script (length output)) ≡ false = ap is_ok (sym is) ∙ off in
-    rw (is, d) (refl, (refl, refl))
-
--- an invalid block
-pub invalid_refused :
-    (lent : Lent) (block script output : List ℕ) {x : Option State} → x ≡ decode_of block → x ≡ None → {a : Answer} → a ≡ first_of (judge_lent_of lent) Argument
-    → (◌≡◌ {A = Ended} (record { answer = a; events = 0; samples = 0 }) (ended_of (run_of lent block script output)))
-    × ((block ≡ (run_of lent block script output).state) × (output ≡ (run_of lent block script output).output))
-invalid_refused lent block script output e h is =
-    run_refused lent block script output (is ∙ judged_invalid lent block script (length output) e h) (ap is_ok is ∙ never_done (judge_lent_of lent))
+run_refused lent block script output h = rw (and_refused _ _ h) (refl, (refl, refl))
 
 -- ---- how many events and samples there can be
 

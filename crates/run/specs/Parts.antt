@@ -1,6 +1,6 @@
 -- What samples in a row share, and what the loop asks and gives: of the controls the part that a sample reads, and the summer's rest. It serves the proof of the loop;
 -- no promise is stated with it.
-use Rattle.std.specs.Prelude.{ℕ, ◌+◌, ◌*◌, ◌≤◌, ◌≡◌, true, List, length, Float, Result}
+use Rattle.std.specs.Prelude.{ℕ, ◌+◌, ◌*◌, ◌≤◌, ◌≡◌, true, List, length, Float, Result, Ok}
 use Rattle.constants.specs.Drives.{input_drives_of, feedback_drives_of}
 use Rattle.answers.specs.declared.Buffer.TheVariants.{Bundle}
 use Rattle.wire.specs.Wire.{put_at}
@@ -13,7 +13,6 @@ use Rattle.control.specs.Block.{valid_of}
 use Rattle.controls.specs.declared.ControlCache.{ControlCache}
 use Rattle.controls.specs.Controls.{refresh_filter_controls_of}
 use Rattle.controls.specs.Judging.{judge_controls_of}
-use Rattle.refresh.specs.declared.Judged.{Judged}
 use Rattle.refresh.specs.Refresh.{core_controls_of, state_gain_of}
 use Rattle.sample.specs.Sample.{summer_inputs_of}
 use Rattle.sample.specs.Parts.{cache_of, rest_of}
@@ -91,8 +90,8 @@ pub record From (bundle : List ℕ) (s : State) (gain : Float) : Type 0 where
   pub gained : gain ≡ state_gain_of bundle s
 
 -- how its registers were judged
-abbrev pub done_with : Float → Judged
-done_with gain = record { answer = done; gain = gain }
+abbrev pub done_with : Float → Result Float Refusal
+done_with gain = Ok gain
 
 abbrev pub moves_from : List ℕ → State → List ℕ → ℕ → ℕ → Moves
 moves_from bundle s script count i = moves_of bundle s (remaining_of script count i)

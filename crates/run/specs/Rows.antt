@@ -1,6 +1,7 @@
 -- How the run's loop takes its events: samples in a row, between which only the integrator moves, and other events in a row. What follows serves the proof of the
 -- loop; no promise is stated with it.
-use Rattle.std.specs.Prelude.{ℕ, suc, ◌+◌, Bool, true, false, cond, List, [], ◌∷◌, length, is_ok, Result, Ok, Err}
+use Rattle.std.specs.Prelude.{ℕ, suc, ◌+◌, Bool, true, false, cond, List, [], ◌∷◌, length, Float, is_ok, Result, Ok, Err}
+use Rattle.std.specs.Result.{result_and}
 use Rattle.floats.specs.Arithmetic.{f32}
 use Rattle.integrator.specs.declared.IntegratorState.{IntegratorState}
 use Rattle.control.specs.declared.State.{State}
@@ -13,15 +14,21 @@ use Rattle.sample.specs.Sample.{summer_slot_of, filter_sample_of}
 use Rattle.script.specs.declared.Event.{Event}
 use Rattle.script.specs.declared.Event.TheVariants.{CutoffLow, CutoffHigh, Routing, Mode, Sample, Reset}
 use Rattle.filter.specs.Plain.{judge_change_of}
-use Rattle.run.specs.declared.Asked.{Asked}
 use Rattle.run.specs.declared.Row.{Row}
 use Rattle.run.specs.declared.Played.{Played}
 use Rattle.run.specs.declared.Ended.{Ended}
-use Rattle.run.specs.Run.{Ran, Run}
+use Rattle.control.specs.Block.{fields_of}
+use Rattle.filter.specs.Lent.{Lent}
+use Rattle.run.specs.Run.{Ran, Run, judge_run_of}
 use Rattle.answers.specs.Answers.{Answer, done}
 use Rattle.answers.specs.declared.Refusal.{Refusal}
 
--- What an event asks of the filter: a sample with its two numbers, or no sample.
+-- What an event asks of the filter: a sample with its two numbers, or no sample, with zeros in their place.
+pub record Asked : Type 0 where
+  pub sample : Bool
+  pub input_sum : Float
+  pub source_energy : Float
+
 abbrev pub not_asked : Asked
 not_asked = record { sample = false; input_sum = f32 0; source_energy = f32 0 }
 
@@ -53,8 +60,8 @@ one_more o r = record { answer = r.answer; events = suc r.events; outputs = o �
 
 -- a sample, and what comes after it
 abbrev pub row_on : (IntegratorState → Samples) → IntegratorState → Result Sampled Refusal → Samples
-row_on later i (Ok (record { outputs = o; state = j })) = one_more o (later j)
-row_on later i (Err answer) = no_samples answer i
+row_on later i (Ok t) = one_more t.outputs (later t.state)
+row_on later i (Err refusal) = no_samples (Err refusal) i
 
 unfoldable pub row_of : List ℕ → List ℕ → MixingTopology → ControlCache → ℕ → IntegratorState → List Event → Samples
 row_of bundle curves t c mode i [] = no_samples done i
@@ -116,9 +123,9 @@ row_end events samples r = record { answer = r.answer; events = events + r.event
 abbrev pub play_end : ℕ → ℕ → Ran → Played
 play_end events samples r = record { answer = r.answer; events = events + r.events; samples = samples + length r.samples; state = r.state }
 
--- what a run answers that has done nothing
-abbrev pub turned_back : Answer → Ended
-turned_back answer = record { answer = answer; events = 0; samples = 0 }
+-- the state that a run starts from, where nothing that is lent is refused
+abbrev pub judged_state_of : Lent → List ℕ → List ℕ → ℕ → Result State Refusal
+judged_state_of lent block script room = result_and (judge_run_of lent block script room) (Ok (fields_of block))
 
 -- what a run answers, without the bytes
 abbrev pub ended_of : Run → Ended

@@ -2,7 +2,7 @@
 #![tactic(auto)]
 
 ghost use Rattle.std.specs.Prelude.{◌≡◌, true, length};
-ghost use Rattle.answers.specs.declared.Answer.TheVariants.{Done};
+ghost use Rattle.answers.specs.Answers.{done};
 ghost use Rattle.wire.specs.Wire.{put_at};
 ghost use Rattle.control.specs.Registers.{of_registers, effective_cutoff_of};
 ghost use Rattle.control.specs.Block.{valid_of};
@@ -15,14 +15,13 @@ ghost use Rattle.run.specs.Run as R;
 ghost use Rattle.run.specs.Rows as W;
 ghost use Rattle.run.specs.Parts as P;
 
-use answers::Answer;
-use bundle::Read;
+use answers::{Answer, Refusal};
 use control::{FilterRegisters, State};
 use integrator::IntegratorState;
 use mixing::MixingTopology;
-use refresh::{CoreControls, CoreRefreshed, Judged};
-use sample::{Outputs, Sampled};
-use script::{Checked, Option<Event>, Event};
+use refresh::{CoreControls, CoreRefreshed};
+use sample::Outputs;
+use script::Event;
 
 // What a run answers: done or its refusal, the events done and the samples written.
 #[derive(Clone, Copy)]
@@ -30,14 +29,6 @@ pub struct Ended {
     pub answer: Answer,
     pub events: usize,
     pub samples: usize,
-}
-
-// What an event asks: a sample with its two numbers, or no sample.
-#[derive(Clone, Copy)]
-pub struct Asked {
-    pub sample: bool,
-    pub input_sum: f32,
-    pub source_energy: f32,
 }
 
 // Where samples in a row end, by the events done and the samples written up to there, and the integrator.
@@ -84,34 +75,10 @@ pub struct Played {
     pub state: State,
 }
 
-fn asks(event: Event) -> Asked
-    ensures { result ≡ W.asked_of event }
+fn is_sample(event: Event) -> bool
+    ensures { result ≡ (W.asked_of event).sample }
 {
-    match event {
-        Event::CutoffLow(_) => no_sample(),
-        Event::CutoffHigh(_) => no_sample(),
-        Event::Routing(_) => no_sample(),
-        Event::Mode(_) => no_sample(),
-        Event::Sample {
-            input_sum,
-            source_energy,
-        } => Asked {
-            sample: true,
-            input_sum,
-            source_energy,
-        },
-        Event::Reset => no_sample(),
-    }
-}
-
-fn no_sample() -> Asked
-    ensures { result ≡ W.not_asked }
-{
-    Asked {
-        sample: false,
-        input_sum: 0.0,
-        source_energy: 0.0,
-    }
+    matches!(event, Event::Sample { .. })
 }
 
 // ---- what samples in a row share
@@ -182,7 +149,12 @@ fn next_registers(registers: FilterRegisters, event: Event) -> FilterRegisters
 }
 
 // What their controls refuse, and their gain. Where the event leaves what is judged as it was, as a write of the volume alone does, both are as before.
-fn judge_next(bundle: &[u8], before: FilterRegisters, gain: f32, next: FilterRegisters) -> Judged
+fn judge_next(
+    bundle: &[u8],
+    before: FilterRegisters,
+    gain: f32,
+    next: FilterRegisters,
+) -> Result<f32, Refusal>
     requires { judged_of bundle.now (of_registers before) ≡ P.done_with gain }
     ensures { result ≡ judged_of bundle.now (of_registers next) }
 {
@@ -191,10 +163,7 @@ fn judge_next(bundle: &[u8], before: FilterRegisters, gain: f32, next: FilterReg
         & (before.resonance == next.resonance)
         & (before.mode == next.mode)
     {
-        return Judged {
-            answer: Ok(()),
-            gain,
-        };
+        return Ok(gain);
     }
     refresh::judge_registers(bundle, next)
 }
@@ -203,34 +172,14 @@ fn judge_next(bundle: &[u8], before: FilterRegisters, gain: f32, next: FilterReg
 fn charges(event: Event) -> bool
     ensures { result ≡ W.charges_of event }
 {
-    match event {
-        Event::CutoffLow(_) => false,
-        Event::CutoffHigh(_) => false,
-        Event::Routing(_) => false,
-        Event::Mode(_) => true,
-        Event::Sample {
-            input_sum: _,
-            source_energy: _,
-        } => false,
-        Event::Reset => false,
-    }
+    matches!(event, Event::Mode(_))
 }
 
 // Whether it is a reset, after which the floats are the starting value's.
 fn resets(event: Event) -> bool
     ensures { result ≡ W.resets_of event }
 {
-    match event {
-        Event::CutoffLow(_) => false,
-        Event::CutoffHigh(_) => false,
-        Event::Routing(_) => false,
-        Event::Mode(_) => false,
-        Event::Sample {
-            input_sum: _,
-            source_energy: _,
-        } => false,
-        Event::Reset => true,
-    }
+    matches!(event, Event::Reset)
 }
 
 // ---- samples in a row
@@ -282,8 +231,7 @@ fn play_samples(
     let mut integrator = from;
     let mut earlier = from;
     let mut samples = before;
-    let mut i = start;
-    while i < count {
+    for i in start..count {
         let Some(event) = script::event_at(script, 8 + 12 * i) else {
             return Row {
                 answer: Err(Refusal::Script),
@@ -292,52 +240,53 @@ fn play_samples(
                 integrator,
             };
         };
-        let ask = asks(event);
-        if ask.sample {
-            match sample::sample_from_parts(
-                curves,
-                slot,
-                topology,
-                &gains,
-                &input_drives,
-                &feedback_drives,
-                core,
-                parts.mode_output_gain,
-                rest,
-                registers.mode,
-                integrator,
-                earlier,
-                ask.input_sum,
-                ask.source_energy,
-            ) {
-                Sampled::Taken { outputs, state } => {
-                    put_outputs(output, 16 * samples, outputs);
-                    earlier = integrator;
-                    integrator = state;
-                    samples += 1;
-                    i += 1;
-                }
-                Sampled::Refused { answer } => {
-                    return Row {
-                        answer,
-                        events: i,
-                        samples,
-                        integrator,
-                    };
-                }
-            }
-        } else {
+        let Event::Sample {
+            input_sum,
+            source_energy,
+        } = event
+        else {
             return Row {
                 answer: Ok(()),
                 events: i,
                 samples,
                 integrator,
             };
+        };
+        match sample::sample_from_parts(
+            curves,
+            slot,
+            topology,
+            &gains,
+            &input_drives,
+            &feedback_drives,
+            core,
+            parts.mode_output_gain,
+            rest,
+            registers.mode,
+            integrator,
+            earlier,
+            input_sum,
+            source_energy,
+        ) {
+            Ok(sampled) => {
+                put_outputs(output, 16 * samples, sampled.outputs);
+                earlier = integrator;
+                integrator = sampled.state;
+                samples += 1;
+            }
+            Err(refusal) => {
+                return Row {
+                    answer: Err(refusal),
+                    events: i,
+                    samples,
+                    integrator,
+                };
+            }
         }
     }
     Row {
         answer: Ok(()),
-        events: i,
+        events: count,
         samples,
         integrator,
     }
@@ -348,14 +297,13 @@ fn sample_next(script: &[u8], i: usize, count: usize) -> bool
     requires { P.Ahead script.now count i }
     ensures { result ≡ W.sample_first (P.remaining_of script.now count i) }
 {
-    if i < count {
-        let Some(event) = script::event_at(script, 8 + 12 * i) else {
-            return false;
-        };
-        let ask = asks(event);
-        return ask.sample;
+    if count <= i {
+        return false;
     }
-    false
+    let Some(event) = script::event_at(script, 8 + 12 * i) else {
+        return false;
+    };
+    is_sample(event)
 }
 
 // The samples in a row from an event on, if there are any: what they share is not worked out for none.
@@ -408,8 +356,7 @@ fn play_changes(
 {
     let mut state = from;
     let mut gain = given;
-    let mut i = start;
-    while i < count {
+    for i in start..count {
         let Some(event) = script::event_at(script, 8 + 12 * i) else {
             return Moved {
                 answer: Err(Refusal::Script),
@@ -418,8 +365,7 @@ fn play_changes(
                 gain,
             };
         };
-        let ask = asks(event);
-        if ask.sample {
+        if is_sample(event) {
             return Moved {
                 answer: Ok(()),
                 events: i,
@@ -429,16 +375,17 @@ fn play_changes(
         }
         let before = state.registers;
         let registers = next_registers(before, event);
-        let judged = judge_next(bundle, before, gain, registers);
-        let answer = judged.answer;
-        if !answer.is_ok() {
-            return Moved {
-                answer,
-                events: i,
-                state,
-                gain,
-            };
-        }
+        let next_gain = match judge_next(bundle, before, gain, registers) {
+            Ok(judged) => judged,
+            Err(refusal) => {
+                return Moved {
+                    answer: Err(refusal),
+                    events: i,
+                    state,
+                    gain,
+                };
+            }
+        };
         if charges(event) {
             let held = state.transients;
             let transients = held.charge(registers.volume);
@@ -460,12 +407,11 @@ fn play_changes(
             state.integrator = integrator;
         }
         state.registers = registers;
-        gain = judged.gain;
-        i += 1;
+        gain = next_gain;
     }
     Moved {
         answer: Ok(()),
-        events: i,
+        events: count,
         state,
         gain,
     }
@@ -501,7 +447,7 @@ fn play(
         state = moved.state;
         gain = moved.gain;
         i = moved.events;
-        if !stopped.is_ok() {
+        if stopped.is_err() {
             return Played {
                 answer: stopped,
                 events: i,
@@ -519,7 +465,7 @@ fn play(
         state.integrator = after;
         samples = row.samples;
         i = row.events;
-        if !answer.is_ok() {
+        if answer.is_err() {
             return Played {
                 answer,
                 events: i,
@@ -542,12 +488,8 @@ fn play(
 fn judge_script(script: &[u8], room: usize) -> Answer
     ensures { result ≡ R.judge_script_of script.now room }
 {
-    match script::check_script(script) {
-        Checked::WellFormed { events: _, samples } => {
-            answers::unless(samples <= room / 16, Refusal::OutputLength)
-        }
-        Checked::Refused(answer) => answer,
-    }
+    let samples = script::check_script(script)?.samples;
+    answers::unless(samples <= room / 16, Refusal::OutputLength)
 }
 
 // The controls of a valid state, then the events.
@@ -559,42 +501,41 @@ fn play_from(
     script: &[u8],
     output: &mut [u8],
 ) -> Played
-    requires { (valid_of from ≡ true) × (R.judge_script_of script.now (length output.old) ≡ Done) }
+    requires { (valid_of from ≡ true) × (R.judge_script_of script.now (length output.old) ≡ done) }
     ensures value { result ≡ W.play_end 0 0 (R.played_of (lent_all bundle.now curves.now decays.now) from (events_of script.now)) }
     ensures output_after { output.new ≡ P.play_put output.old (R.played_of (lent_all bundle.now curves.now decays.now) from (events_of script.now)) }
 {
-    let judged = refresh::judge_controls(bundle, from);
-    let answer = judged.answer;
-    if answer.is_ok() {
-        let count = wire::u32_at(script, 0) as usize;
-        return play(
-            bundle,
-            curves,
-            decays,
-            from,
-            judged.gain,
-            script,
-            count,
-            output,
-        );
-    }
-    Played {
-        answer,
-        events: 0,
-        samples: 0,
-        state: from,
-    }
+    let gain = match refresh::judge_controls(bundle, from) {
+        Ok(gain) => gain,
+        Err(refusal) => {
+            return Played {
+                answer: Err(refusal),
+                events: 0,
+                samples: 0,
+                state: from,
+            };
+        }
+    };
+    let count = wire::u32_at(script, 0) as usize;
+    play(bundle, curves, decays, from, gain, script, count, output)
 }
 
-// A run that is turned back has done nothing.
-fn turned_back(answer: Answer) -> Ended
-    ensures { result ≡ W.turned_back answer }
+// The state of its block, where nothing that is lent is refused. Refuses 1, 2, 4, 10, 12, 7, 8.
+fn judge_run(
+    bundle: &[u8],
+    curves: &[u8],
+    block: &[u8],
+    decays: &[u8],
+    script: &[u8],
+    room: usize,
+) -> Result<State, Refusal>
+    ensures { result ≡ W.judged_state_of (lent_all bundle.now curves.now decays.now) block.now script.now room }
 {
-    Ended {
-        answer,
-        events: 0,
-        samples: 0,
-    }
+    filter::judge_lent(bundle, curves)?;
+    let state = State::decode(block).ok_or(Refusal::Argument)?;
+    transients::judge_decays(decays)?;
+    judge_script(script, room)?;
+    Ok(state)
 }
 
 // Runs a script from the state in its block: the samples go into the output, the state after them into the block. It stops at the first refusal: 1, 2, 4, 10, 12, 7,
@@ -611,26 +552,22 @@ pub fn run(
     ensures state_after { state.new ≡ (R.run_of (lent_all bundle.now curves.now decays.now) state.old script.now output.old).state }
     ensures output_after { output.new ≡ (R.run_of (lent_all bundle.now curves.now decays.now) state.old script.now output.old).output }
 {
-    let decoded = State::decode(state);
-    let lent = filter::judge_lent(bundle, curves);
-    let Some(from) = decoded else {
-        return turned_back(answers::first(lent, Err(Refusal::Argument)));
+    let from = match judge_run(bundle, curves, state, decays, script, output.len()) {
+        Ok(from) => from,
+        // It is turned back, and has done nothing.
+        Err(refusal) => {
+            return Ended {
+                answer: Err(refusal),
+                events: 0,
+                samples: 0,
+            };
+        }
     };
-    let later = answers::first(
-        transients::judge_decays(decays),
-        judge_script(script, output.len()),
-    );
-    let judged = answers::first(lent, later);
-    if judged.is_ok() {
-        let p = play_from(bundle, curves, decays, from, script, output);
-        let answer = p.answer;
-        let after = p.state;
-        after.encode(state);
-        return Ended {
-            answer,
-            events: p.events,
-            samples: p.samples,
-        };
+    let played = play_from(bundle, curves, decays, from, script, output);
+    played.state.encode(state);
+    Ended {
+        answer: played.answer,
+        events: played.events,
+        samples: played.samples,
     }
-    turned_back(judged)
 }

@@ -1,4 +1,3 @@
-use native.Mathlib.Omega.{arith}
 use mathlib.Core.Path.{sym, ◌∙◌}
 use Rattle.run.proofs.Moves.{sofar_start, known, at_end, unreadable, sampled, refused, overflows, charge_none, charge_goes, reset_none, reset_goes}
 use Rattle.run.proofs.play_changes.Goals as goal
@@ -12,33 +11,22 @@ loop-i-init c =
 pub returns-in_default : goal.returns-in_default
 returns-in_default c = absurd (unreadable _ _ _ _ _ _ _ _ c.loop-i.invariant c.loop-i-test.true (sym c.event_at.ensures ∙ c.in_default.is))
 
-pub returns-then-ask : goal.returns-then-ask
-returns-then-ask c = sampled _ _ _ _ _ _ _ _ c.loop-i.invariant c.loop-i-test.true c.in-Some.event (sym c.event_at.ensures ∙ c.in-Some.is) c.asks-ask.ensures c.if-ask.true
+pub returns-then-is_sample : goal.returns-then-is_sample
+returns-then-is_sample c = sampled _ _ _ _ _ _ _ _ c.loop-i.invariant c.loop-i-test.true c.in-Some.event (sym c.event_at.ensures ∙ c.in-Some.is) c.is_sample.ensures c.if-is_sample.true
 
-pub judge_next-judged-requires : goal.judge_next-judged-requires
-judge_next-judged-requires c = known _ _ _ _ _ _ _ _ c.loop-i.invariant
+pub judge_next-requires : goal.judge_next-requires
+judge_next-requires c = known _ _ _ _ _ _ _ _ c.loop-i.invariant
 
-pub returns-then-not-is_done : goal.returns-then-not-is_done
-returns-then-not-is_done c =
-    refused _ _ _ _ _ _ _ _ c.loop-i.invariant c.loop-i-test.true c.in-Some.event (sym c.event_at.ensures ∙ c.in-Some.is) c.asks-ask.ensures
-    c.if-ask.false c.next_registers-registers.ensures c.judge_next-judged.ensures c.is_done.ensures c.if-not-is_done.true
+pub returns-in-Err : goal.returns-in-Err
+returns-in-Err c =
+    refused _ _ _ _ _ _ _ _ c.loop-i.invariant c.loop-i-test.true c.in-Some.event (sym c.event_at.ensures ∙ c.in-Some.is) c.is_sample.ensures
+    c.if-is_sample.false c.next_registers-registers.ensures c.judge_next.ensures _ c.in-Err.is
 
 pub returns-then-not-finite_charges : goal.returns-then-not-finite_charges
 returns-then-not-finite_charges c =
-    overflows _ _ _ _ _ _ _ _ c.loop-i.invariant c.loop-i-test.true c.in-Some.event (sym c.event_at.ensures ∙ c.in-Some.is) c.asks-ask.ensures
-    c.if-ask.false c.next_registers-registers.ensures c.judge_next-judged.ensures c.is_done.ensures c.if-not-is_done.false
+    overflows _ _ _ _ _ _ _ _ c.loop-i.invariant c.loop-i-test.true c.in-Some.event (sym c.event_at.ensures ∙ c.in-Some.is) c.is_sample.ensures
+    c.if-is_sample.false c.next_registers-registers.ensures c.judge_next.ensures c.in-Ok.is
     c.charges.ensures c.if-charges.true c.charge-transients.ensures c.finite_charges.ensures c.if-not-finite_charges.true
-
-pub overflow_add-i-in-loop-i : goal.overflow_add-i-in-loop-i
-overflow_add-i-in-loop-i c =
-    let more = c.loop-i-test.true in
-    let most = c.requires.ahead.few in
-    record { fits = omega arith }
-
-pub loop-i-smaller : goal.loop-i-smaller
-loop-i-smaller c =
-    let more = c.loop-i-test.true in
-    omega arith
 
 pub loop-i-preserved : goal.loop-i-preserved
 loop-i-preserved c =
@@ -46,30 +34,29 @@ loop-i-preserved c =
     let more = c.loop-i-test.true in
     let event = c.in-Some.event in
     let is = sym c.event_at.ensures ∙ c.in-Some.is in
-    let other = c.if-ask.false in
-    let done = c.if-not-is_done.false in
+    let other = c.if-is_sample.false in
     elim c.if-charges.branch [
       | then-charges+else-not-finite_charges w ↦ elim c.if-resets.branch [
-        | then-resets v ↦ reset_goes _ _ _ _ _ _ _ _ inv more event is c.asks-ask.ensures other c.next_registers-registers.ensures c.judge_next-judged.ensures c.is_done.ensures done
+        | then-resets v ↦ reset_goes _ _ _ _ _ _ _ _ inv more event is c.is_sample.ensures other c.next_registers-registers.ensures c.judge_next.ensures c.in-Ok.is
             c.charges.ensures
-            (charge_goes _ _ _ _ _ _ _ _ inv more event is c.asks-ask.ensures other c.next_registers-registers.ensures c.judge_next-judged.ensures c.is_done.ensures done
+            (charge_goes _ _ _ _ _ _ _ _ inv more event is c.is_sample.ensures other c.next_registers-registers.ensures c.judge_next.ensures c.in-Ok.is
             c.charges.ensures w.if-charges.true w.charge-transients.ensures w.finite_charges.ensures w.if-not-finite_charges.false w.state-is)
             c.resets.ensures v.if-resets.true v.new-fresh.ensures v.state-is
-        | else-resets v ↦ reset_none _ _ _ _ _ _ _ _ inv more event is c.asks-ask.ensures other c.next_registers-registers.ensures c.judge_next-judged.ensures c.is_done.ensures done
+        | else-resets v ↦ reset_none _ _ _ _ _ _ _ _ inv more event is c.is_sample.ensures other c.next_registers-registers.ensures c.judge_next.ensures c.in-Ok.is
             c.charges.ensures
-            (charge_goes _ _ _ _ _ _ _ _ inv more event is c.asks-ask.ensures other c.next_registers-registers.ensures c.judge_next-judged.ensures c.is_done.ensures done
+            (charge_goes _ _ _ _ _ _ _ _ inv more event is c.is_sample.ensures other c.next_registers-registers.ensures c.judge_next.ensures c.in-Ok.is
             c.charges.ensures w.if-charges.true w.charge-transients.ensures w.finite_charges.ensures w.if-not-finite_charges.false w.state-is)
             c.resets.ensures v.if-resets.false v.state-is
       ]
       | else-charges w ↦ elim c.if-resets.branch [
-        | then-resets v ↦ reset_goes _ _ _ _ _ _ _ _ inv more event is c.asks-ask.ensures other c.next_registers-registers.ensures c.judge_next-judged.ensures c.is_done.ensures done
+        | then-resets v ↦ reset_goes _ _ _ _ _ _ _ _ inv more event is c.is_sample.ensures other c.next_registers-registers.ensures c.judge_next.ensures c.in-Ok.is
             c.charges.ensures
-            (charge_none _ _ _ _ _ _ _ _ inv more event is c.asks-ask.ensures other c.next_registers-registers.ensures c.judge_next-judged.ensures c.is_done.ensures done
+            (charge_none _ _ _ _ _ _ _ _ inv more event is c.is_sample.ensures other c.next_registers-registers.ensures c.judge_next.ensures c.in-Ok.is
             c.charges.ensures w.if-charges.false w.state-is)
             c.resets.ensures v.if-resets.true v.new-fresh.ensures v.state-is
-        | else-resets v ↦ reset_none _ _ _ _ _ _ _ _ inv more event is c.asks-ask.ensures other c.next_registers-registers.ensures c.judge_next-judged.ensures c.is_done.ensures done
+        | else-resets v ↦ reset_none _ _ _ _ _ _ _ _ inv more event is c.is_sample.ensures other c.next_registers-registers.ensures c.judge_next.ensures c.in-Ok.is
             c.charges.ensures
-            (charge_none _ _ _ _ _ _ _ _ inv more event is c.asks-ask.ensures other c.next_registers-registers.ensures c.judge_next-judged.ensures c.is_done.ensures done
+            (charge_none _ _ _ _ _ _ _ _ inv more event is c.is_sample.ensures other c.next_registers-registers.ensures c.judge_next.ensures c.in-Ok.is
             c.charges.ensures w.if-charges.false w.state-is)
             c.resets.ensures v.if-resets.false v.state-is
       ]

@@ -6,6 +6,3 @@ use Rattle.run.proofs.play_samples.Given as goal
 abbrev pub invariant-loop-i : goal.invariant-loop-i
 invariant-loop-i l =
     Sofar l.bundle l.curves l.parts.topology (cache_of_parts l.parts) l.registers.mode l.script l.count l.start l.before l.initial.output l.initial.integrator l.output l.integrator l.samples l.i
-
-abbrev pub decreases-loop-i : goal.decreases-loop-i
-decreases-loop-i l = l.count - l.i
