@@ -43,6 +43,11 @@ pub and_done : {T : Type 0} (judged : Answer) (x : T) {y : T} → result_and jud
 and_done (Ok _) x h = (refl, (cc))
 and_done (Err r) x h = (cc, (cc))
 
+-- The first of two that refuses.
+pub first_stops : (a b : Answer) → is_ok a ≡ false → first_of a b ≡ a
+first_stops (Ok _) b h = cc
+first_stops (Err r) b h = refl
+
 -- An answer with nothing after it.
 pub first_of_done : (a : Answer) → first_of a done ≡ a
 first_of_done (Ok _) = refl

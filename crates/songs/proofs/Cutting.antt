@@ -9,7 +9,7 @@ use lib.ListN.{length, drop, length-append}
 use lib.Seq.{take_at}
 use borrow.Author.Tests.{le-leb}
 use Rattle.answers.specs.Answers.{first_of, Answer, done}
-use Rattle.answers.proofs.Laws.{done_is, first_assoc, first_of_done}
+use Rattle.answers.proofs.Laws.{done_is, first_assoc, first_of_done, first_stops}
 use Rattle.wire.specs.Wire.{Bytes}
 use Rattle.transients.specs.Block.{judge_decays_of}
 use Rattle.control.specs.declared.State.{State}
@@ -149,7 +149,7 @@ module _ (lent : Lent) (s : State) (es : List Event) (v : valid_of s ≡ true) w
 
   plain_stops : is_ok (lent_judged lent) ≡ false → told_ran (stopped (lent_judged lent) s) ≡ plain_told lent s es
   unfolding plain_told
-  plain_stops h = let is : plain_start lent s ≡ lent_judged lent = start_lent ∙ rw h refl in rw (is, h) refl
+  plain_stops h = let is = start_lent ∙ first_stops _ _ h in rw (is, h) refl
 
 -- ---- any list of pieces
 

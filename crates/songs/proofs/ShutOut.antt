@@ -21,7 +21,6 @@ use Rattle.script.specs.Script.{events_of, sample_count_of, samples_of}
 use Rattle.script.proofs.Cut.{samples_append}
 use Rattle.filter.specs.Lent.{Lent, judge_lent_of}
 use Rattle.filter.specs.Plain.{Plain, refused_at, judge_change_of, plain_change, plain_taken, judge_plain, plain_sampled, plain_sample, plain_step, plain_trace}
-use Rattle.filter.proofs.Demand3.{refuses, taken_refuses}
 use Rattle.run.specs.Run.{Ran, stopped, went, play_of, played_of, sample_bytes, judge_block_of, judge_run_of, Run, left_of, run_of}
 use Rattle.run.proofs.Bytes.{length_outputs}
 use Rattle.run.proofs.Whole.{roomy, block_stands}
@@ -42,7 +41,7 @@ first_answer lent s (e ∷ es) = (plain_step lent s e).answer
 
 -- The first event, if there is one, is done unless `first` is a refusal; where none is done, that is the answer.
 abbrev pub Event0 : Answer → List Event → Answer → ℕ → Type 0
-Event0 first es answer done = (first ≡ done → length (take 1 es) ≤ done) × (done ≡ 0 → answer ≡ first)
+Event0 first es answer events = (first ≡ done → length (take 1 es) ≤ events) × (events ≡ 0 → answer ≡ first)
 
 first_refused : (a : Answer) (es : List Event) → is_ok a ≡ false → Event0 a es a 0
 first_refused a es h = ((λ d. absurd (true≢false (sym (ap is_ok d) ∙ h))), (λ z. refl))
@@ -97,15 +96,14 @@ module _ (lent : Lent) where
       go true = refl
       go false = refl
 
-  taken_counts : (s : State) (x : Result Sampled Refusal) → refuses x ≡ true → (plain_taken s x).answer ≡ done → length (plain_taken s x).sample ≡ 1
-  unfolding refuses
-  taken_counts s (Ok (record { outputs = o; state = i })) r h = refl
-  taken_counts s (Err a) r h = cc (ap is_ok h)
+  taken_counts : (s : State) (x : Result Sampled Refusal) → (plain_taken s x).answer ≡ done → length (plain_taken s x).sample ≡ 1
+  taken_counts s (Ok t) h = refl
+  taken_counts s (Err refusal) h = cc (ap is_ok h)
 
-  sample_counts : (s : State) (a : Answer) (x : Result Sampled Refusal) (d : Bool) → is_ok a ≡ d → refuses x ≡ true
+  sample_counts : (s : State) (a : Answer) (x : Result Sampled Refusal) (d : Bool) → is_ok a ≡ d
       → (cond d (plain_taken s x) (refused_at s a)).answer ≡ done → length (cond d (plain_taken s x) (refused_at s a)).sample ≡ 1
-  sample_counts s a x true is r h = taken_counts s x r h
-  sample_counts s a x false is r h = cc (ap is_ok h)
+  sample_counts s a x true is h = taken_counts s x h
+  sample_counts s a x false is h = cc (ap is_ok h)
 
   step_counts : (s : State) (e : Event) → (plain_step lent s e).answer ≡ done → length (plain_step lent s e).sample ≡ sample_count_of e
   unfolding plain_sample
@@ -114,7 +112,7 @@ module _ (lent : Lent) where
   step_counts s (Routing v) h = change_counts s (write_signal_routing_of s v)
   step_counts s (Mode v) h = change_counts s (write_mode_and_volume_of s v)
   step_counts s Reset h = change_counts s starting_state
-  step_counts s (Sample sum energy) h = sample_counts s (judge_plain lent s sum energy) (plain_sampled lent s sum energy) (is_ok (judge_plain lent s sum energy)) refl (taken_refuses _ _ _ _) h
+  step_counts s (Sample sum energy) h = sample_counts s (judge_plain lent s sum energy) (plain_sampled lent s sum energy) (is_ok (judge_plain lent s sum energy)) refl h
 
   -- A list without a refusal has all its events done and a sample for each sample event.
   play_counts : (s : State) (es : List Event) → (play_of lent s es).answer ≡ done → ((play_of lent s es).events ≡ length es) × (length (play_of lent s es).samples ≡ samples_of es)
@@ -266,7 +264,7 @@ module _ (lent : Lent) (block script output : List ℕ) where
       )
 
   -- 10 comes before 7 and 8.
-  pub block_before_script : judge_lent_of lent ≡ done → judge_block_of block ≡ Argument → ran.answer ≡ Argument
+  pub block_before_script : judge_lent_of lent ≡ done → judge_block_of block ≡ Err Argument → ran.answer ≡ Err Argument
   unfolding run_of judge_run_of
   block_before_script l b = rw (l, b) refl
 
