@@ -1,4 +1,4 @@
--- A test at every number below n, lists and sums of what a function gives, and the steps of the definitions at an index of the code.
+-- Sums of what a function gives, a list with one entry stored, and the steps of the definitions at an index of the code.
 use Rattle.std.proofs.Common.{◌≡◌, ℕ, zero, suc, ◌+◌, ◌-◌, ◌<◌, ◌≤◌, Bool, true, false, List, length, get_or, refl, sym, ◌∙◌, ap, map, add-one, arith}
 use Rattle.std.proofs.Common.{get_or-set_same, get_or-set_other}
 use Rattle.std.specs.Prelude.{eqb, Float}
@@ -16,28 +16,6 @@ use Rattle.ladder.specs.Arithmetic.{◌⊞◌, ◌⊟◌, ◌⊠◌, f64}
 use Rattle.ladder.specs.declared.Network.{Network}
 use Rattle.ladder.specs.declared.Row.{Row}
 use Rattle.ladder.specs.Ladder.{at, sum_of, next_row_of, row_at, row_in, result_from}
-
--- ---- a test
-
-pub every_holds : (ok : ℕ → Bool) (n : ℕ) → ((k : ℕ) → k < n → ok k ≡ true) → every ok n ≡ true
-unfolding every
-every_holds ok zero h = refl
-every_holds ok (suc n) h = rw (every_holds ok n (λ k l. h k (omega arith)), h n (omega arith)) refl
-
-pub every_fails : (ok : ℕ → Bool) (n k : ℕ) → k < n → ok k ≡ false → every ok n ≡ false
-every_fails ok n k l e = go (every ok n) refl
-  where
-    go : (b : Bool) → every ok n ≡ b → every ok n ≡ false
-    go true q = let held = every_true ok n q k l in cc
-    go false q = q
-
--- what `all` tells of a list
-pub all_told : {X : Type 0} (test : X → Bool) (ok : ℕ → Bool) (xs : List X) (n : ℕ) (d : X) (r : Bool) → length xs ≡ n
-    → ((k : ℕ) → k < n → test (get_or xs k d) ≡ ok k)
-    → MatchBool r (AllWithin (λ x. test x ≡ true) xs 0 (length xs)) ((k : ℕ) × (k < length xs) × HoldsAt (λ x. test x ≡ false) xs k)
-    → r ≡ every ok n
-all_told test ok xs n d true l same h = sym (every_holds ok n (λ k b. sym (same k b) ∙ h k d (omega arith) (omega arith)))
-all_told test ok xs n d false l same h = sym (every_fails ok n h.0 (omega (arith, h.1)) (sym (same h.0 (omega (arith, h.1))) ∙ h.2 d))
 
 -- ---- sums
 

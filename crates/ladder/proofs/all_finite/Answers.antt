@@ -5,7 +5,7 @@ use Rattle.std.proofs.lemmas.Iterator.{YieldsList-from_slice, cases_from_all}
 use borrow.Author.Tests.{tests}
 use Rattle.ladder.specs.Calls.{all_finite_of}
 use Rattle.ladder.specs.Ladder.{at}
-use Rattle.ladder.proofs.Laws.{all_told}
+use Rattle.wire.proofs.Every.{all_told}
 use Rattle.ladder.proofs.all_finite.Goals as goal
 
 pub returns : goal.returns
