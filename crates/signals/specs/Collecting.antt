@@ -1,9 +1,8 @@
 -- The call on lent bytes: 10, 11, 6, and the eight sums in 32 bytes.
-use Rattle.std.specs.Prelude.{ℕ, Bool, ◌&&◌, cond, List, ◌++◌, leb, eqb, length}
+use Rattle.std.specs.Prelude.{ℕ, Bool, ◌&&◌, cond, List, ◌++◌, leb, eqb, length, is_ok}
 use Rattle.std.specs.Float.Ieee.Scale.{finite}
-use Rattle.answers.specs.declared.Answer.{Answer}
-use Rattle.answers.specs.declared.Answer.TheVariants.{Argument, Sources, Domain}
-use Rattle.answers.specs.Answers.{is_done_of, first_of, unless_of}
+use Rattle.answers.specs.declared.Refusal.TheVariants.{Argument, Sources, Domain}
+use Rattle.answers.specs.Answers.{Answer, first_of, unless_of}
 use Rattle.wire.specs.Wire.{float_bytes}
 use Rattle.mixing.specs.Topology.{topology_of}
 use Rattle.voice.specs.Levels.{source_resting_of}
@@ -46,4 +45,4 @@ collect_answer_of routing mode voices numbers room =
 -- The lent sums after the call: as they were where it is refused.
 unfoldable pub collected_of : ℕ → ℕ → List ℕ → List ℕ → List ℕ → List ℕ
 collected_of routing mode voices numbers sums =
-    cond (is_done_of (collect_answer_of routing mode voices numbers (length sums))) (signal_bytes (signals_of routing mode voices numbers)) sums
+    cond (is_ok (collect_answer_of routing mode voices numbers (length sums))) (signal_bytes (signals_of routing mode voices numbers)) sums

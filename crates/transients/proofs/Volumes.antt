@@ -7,6 +7,8 @@ use mathlib.Core.Bool.{Bool, true, false}
 use mathlib.Core.List.{List, [], ◌∷◌}
 use lib.ListN.{get_or}
 use lib.Ieee.{Float, nan, of_bits, fits, add, mul, div}
+use Rattle.constants.specs.Tables.{NoneOf}
+use Rattle.constants.proofs.Tables.{none_of_past}
 use Rattle.constants.specs.Values as K
 use Rattle.floats.specs.Arithmetic.{f32}
 use Rattle.floats.specs.Floats.{finite_f32_of}
@@ -66,11 +68,16 @@ low_bits volume = simp (bit0, bit1, bit2, bit3)
     bit3 : volume % 16 / 8 % 2 ≡ volume / 8 % 2
     bit3 = omega arith
 
--- what an arm gives
+-- what an arm gives; the last one is of no other volume
 pub conductance_at : (volume n : ℕ) → volume % 16 ≡ n → get_or conductances n nan ≡ volume_dac_conductance_code_of volume
 conductance_at volume n e =
     let formula = formula_at 0 16 (volume % 16) (mod-lt volume (omega arith)) in
     rw (← e) (ap (λ (xs : List Float). get_or xs (volume % 16) nan) arms_are_formula ∙ formula ∙ rw (zero-add (volume % 16)) (low_bits volume))
+
+pub last_conductance : (volume : ℕ) → NoneOf 15 (volume % 16) → get_or conductances 15 nan ≡ volume_dac_conductance_code_of volume
+last_conductance volume others =
+    let least = none_of_past 15 (volume % 16) others in
+    conductance_at volume 15 (omega (arith, least, mod-lt volume {m = 16} (omega arith)))
 
 -- ---- finite: sixteen sums of the DAC's branches
 

@@ -1,6 +1,5 @@
-use Rattle.std.proofs.Common.{◌%◌, ◌<◌, arith}
-use native.Mathlib.Nat.{mod-lt}
-use Rattle.transients.proofs.Volumes.{conductance_at}
+use Rattle.std.proofs.Common.{rules}
+use Rattle.transients.proofs.Volumes.{conductance_at, last_conductance}
 use Rattle.transients.proofs.conductance.Goals as goal
 
 pub returns-in-0 : goal.returns-in-0
@@ -49,4 +48,4 @@ pub returns-in-14 : goal.returns-in-14
 returns-in-14 c = conductance_at c.args.volume 14 c.in-14.is
 
 pub returns-in_default : goal.returns-in_default
-returns-in_default c = let below : c.args.volume % 16 < 16 = mod-lt c.args.volume (omega arith) in conductance_at c.args.volume 15 (omega arith)
+returns-in_default c = last_conductance c.args.volume (search rules)
