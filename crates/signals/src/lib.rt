@@ -188,24 +188,30 @@ impl Voices {
         let Self { one, two, three } = self;
         let filter = topology.filter_internal_mask;
         let bypass = topology.bypass_internal_mask;
-        let f1 = sums.with_if(is_masked(filter, 0), |s| {
-            s.add_filter_voice(one, source_resting)
-        });
-        let f2 = f1.with_if(is_masked(filter, 1), |s| {
-            s.add_filter_voice(two, source_resting)
-        });
-        let f3 = f2.with_if(is_masked(filter, 2), |s| {
-            s.add_filter_voice(three, source_resting)
-        });
-        let b1 = f3.with_if(is_masked(bypass, 0), |s| {
-            s.add_bypass_voice(one, blends.one, source_resting)
-        });
-        let b2 = b1.with_if(is_masked(bypass, 1), |s| {
-            s.add_bypass_voice(two, blends.two, source_resting)
-        });
-        b2.with_if(is_masked(bypass, 2), |s| {
-            s.add_bypass_voice(three, blends.three, source_resting)
-        })
+        sums.with_if(
+            is_masked(filter, 0),
+            |s| s.add_filter_voice(one, source_resting),
+        )
+        .with_if(
+            is_masked(filter, 1),
+            |s| s.add_filter_voice(two, source_resting),
+        )
+        .with_if(
+            is_masked(filter, 2),
+            |s| s.add_filter_voice(three, source_resting),
+        )
+        .with_if(
+            is_masked(bypass, 0),
+            |s| s.add_bypass_voice(one, blends.one, source_resting),
+        )
+        .with_if(
+            is_masked(bypass, 1),
+            |s| s.add_bypass_voice(two, blends.two, source_resting),
+        )
+        .with_if(
+            is_masked(bypass, 2),
+            |s| s.add_bypass_voice(three, blends.three, source_resting),
+        )
     }
 }
 
