@@ -1,4 +1,4 @@
--- What a branch of the code has told, put together as the definitions have it.
+-- The table of scales at a selection, and the sums' bytes.
 use mathlib.Core.Path.{◌≡◌, refl, sym, ◌∙◌}
 use mathlib.Core.Bool.{true, false}
 use mathlib.Core.List.{List}
@@ -43,20 +43,6 @@ other_scale (suc (suc (suc (suc (suc k))))) h a b c = sym (get_or-replicate 11 k
 pub past_scale : (i : ℕ) → 15 < i → f32 0x7fc0_0000 ≡ attack_scale_of i
 unfolding attack_scale_of of_bits
 past_scale i h = sym (get_or-eq_default K.pure_bypass_attack_scale_by_selection nan {n = i} h)
-
--- ---- a voice beside the filter
-
-module _ (s : RoutedSignals) (v : VoiceSignal) (blend resting source : Float) where
-  abbrev sounding : RoutedSignals
-  sounding = with_bypass s (s.bypass_input_sum ⊕ source) (s.bypass_envelope_activity ⊕ v.envelope)
-
-  pub bypass_pure : source ≡ mixer_voice_signal_of v blend → eq v.envelope (f32 0) ≡ false → is_pure_of v ≡ true → add_pure_voice_of sounding v ≡ add_bypass_voice_of s v blend resting
-  unfolding add_bypass_voice_of
-  bypass_pure e h p = rw (e, h, p) refl
-
-  pub bypass_other : source ≡ mixer_voice_signal_of v blend → eq v.envelope (f32 0) ≡ false → is_pure_of v ≡ false → sounding ≡ add_bypass_voice_of s v blend resting
-  unfolding add_bypass_voice_of
-  bypass_other e h p = rw (e, h, p) refl
 
 -- ---- the sums' bytes
 

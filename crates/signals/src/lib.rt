@@ -3,7 +3,7 @@
 
 ghost use Rattle.std.specs.Prelude.{◌≡◌, ◌<◌, ◌≤◌, length, IsTrue, MatchBool};
 ghost use Rattle.signals.specs.Signals as S;
-ghost use Rattle.signals.specs.Lent.{voices_of, valid_voices_of, external_of, blends_of, finite_three_at, finite_numbers_of};
+ghost use Rattle.signals.specs.Lent.{voices_of, valid_voices_of, external_of, blends_of, finite_numbers_of};
 ghost use Rattle.signals.specs.Collecting as C;
 
 use answers::{Answer, Refusal};
@@ -306,7 +306,7 @@ pub fn voices_of(s: &[u8]) -> Voices
     }
 }
 
-// Whether these are 36 bytes, and each voice valid.
+// Whether these are 36 bytes, and each voice valid, with no branch from one to the next.
 #[tactic(auto, unfolding(crate::specs::Lent::valid_voices_of))]
 pub fn valid_voices(s: &[u8]) -> bool
     ensures { result ≡ valid_voices_of s.now }
@@ -341,20 +341,11 @@ fn blends_of(s: &[u8]) -> SawBlends
     }
 }
 
-#[tactic(auto, unfolding(crate::specs::Lent::finite_three_at))]
-fn finite_three_at(s: &[u8], p: usize) -> bool
-    requires { p ≤ 12 }
-    ensures { result ≡ finite_three_at s.now p }
-{
-    wire::finite_at(s, p) & wire::finite_at(s, p + 4) & wire::finite_at(s, p + 8)
-}
-
 // Whether these are 24 bytes, and each number finite.
-#[tactic(auto, unfolding(crate::specs::Lent::finite_numbers_of))]
 fn finite_numbers(s: &[u8]) -> bool
     ensures { result ≡ finite_numbers_of s.now }
 {
-    (s.len() == 24) & (finite_three_at(s, 0) & finite_three_at(s, 12))
+    (s.len() == 24) & (0..6).all(|i| wire::finite_at(s, 4 * i))
 }
 
 #[tactic(auto, unfolding(crate::specs::Collecting::judge_collect_of))]
