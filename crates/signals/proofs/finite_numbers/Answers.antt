@@ -1,6 +1,5 @@
-use Rattle.std.proofs.Common.{◌≡◌, ◌*◌, ◌&&◌, refl, rules, true, false}
+use Rattle.std.proofs.Common.{◌*◌, ◌&&◌, refl, rules}
 use Rattle.std.proofs.Math.Bool.{and_assoc}
-use Rattle.std.proofs.lemmas.Iterator.{YieldsList-from_range, cases_from_all}
 use borrow.Author.Tests.{tests}
 use Rattle.wire.specs.First.{every}
 use Rattle.wire.specs.Wire.{finite_at}
@@ -13,8 +12,5 @@ unfolding finite_numbers_of finite_three_at every
 returns c =
     let s = c.args.s.now in
     let first = finite_at s 0 && finite_at s 4 && finite_at s 8 in
-    let six =
-    all_below (λ i. finite_at s (4 * i)) 6 _
-    (cases_from_all _ _ _ (λ i. finite_at s (4 * i) ≡ true) (λ i. finite_at s (4 * i) ≡ false) c.all.ensures.ran (YieldsList-from_range 0 6 6 refl refl)
-    (λ x q k. search (rules, tests)) (λ x q k. search (rules, tests))) in
+    let six = all_below _ (λ i. finite_at s (4 * i)) 6 c.all.ensures.ran (λ x q k. search (rules, tests)) (λ x q k. search (rules, tests)) in
     rw (six, and_assoc first (finite_at s 12) (finite_at s 16), and_assoc first (finite_at s 12 && finite_at s 16) (finite_at s 20)) refl

@@ -1,7 +1,6 @@
-use Rattle.std.proofs.Common.{◌≡◌, ◌*◌, ◌&&◌, length, refl, sym, rules, true, false}
+use Rattle.std.proofs.Common.{◌*◌, ◌&&◌, length, refl, sym, rules}
 use Rattle.std.specs.Prelude.{eqb}
 use Rattle.std.proofs.Math.Bool.{and_assoc}
-use Rattle.std.proofs.lemmas.Iterator.{YieldsList-from_range, cases_from_all}
 use borrow.Author.Tests.{tests}
 use Rattle.wire.specs.First.{every}
 use Rattle.wire.proofs.Every.{all_below}
@@ -12,8 +11,5 @@ pub returns : goal.returns
 unfolding judge_decays_of every
 returns c =
     let s = c.args.decays.now in
-    let six =
-    all_below (λ i. factor_at s (4 * i)) 6 _
-    (cases_from_all _ _ _ (λ i. factor_at s (4 * i) ≡ true) (λ i. factor_at s (4 * i) ≡ false) c.all-factors.ensures.ran (YieldsList-from_range 0 6 6 refl refl)
-    (λ x q k. search (rules, tests)) (λ x q k. search (rules, tests))) in
+    let six = all_below _ (λ i. factor_at s (4 * i)) 6 c.all-factors.ensures.ran (λ x q k. search (rules, tests)) (λ x q k. search (rules, tests)) in
     rw (c.unless.ensures, six, sym (and_assoc (eqb (length s) 24) (factor_at s 0 && factor_at s 4 && factor_at s 8 && factor_at s 12 && factor_at s 16) (factor_at s 20))) refl
