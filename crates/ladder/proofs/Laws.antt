@@ -1,17 +1,14 @@
 -- Sums of what a function gives, a list with one entry stored, and the steps of the definitions at an index of the code.
-use Rattle.std.proofs.Common.{◌≡◌, ℕ, zero, suc, ◌+◌, ◌-◌, ◌<◌, ◌≤◌, Bool, true, false, List, length, get_or, refl, sym, ◌∙◌, ap, map, add-one, arith}
+use Rattle.std.proofs.Common.{◌≡◌, ℕ, zero, suc, ◌+◌, ◌-◌, ◌<◌, ◌≤◌, Bool, true, false, List, length, get_or, refl, ◌∙◌, ap, map, add-one, arith}
 use Rattle.std.proofs.Common.{get_or-set_same, get_or-set_other}
 use Rattle.std.specs.Prelude.{eqb, Float}
-use Rattle.std.specs.Bool.{MatchBool}
-use Rattle.std.specs.List.{range_with_len, fold, enumerate_from, AllWithin, HoldsAt}
+use Rattle.std.specs.List.{range_with_len, fold, enumerate_from}
 use Rattle.std.specs.Float.{nan}
 use Rattle.std.proofs.lemmas.List.FromFn.{map-range_with_len_more, fill_by_all, get_or-enumerate_from, length-enumerate_from}
 use Rattle.std.proofs.lemmas.List.Sums.{fold-append}
 use borrow.Author.Tests.{eqb-true, eqb-false}
 use lib.ListN.{set}
 use Rattle.std.proofs.lemmas.List.{get_or-map, length-map}
-use Rattle.wire.specs.First.{every}
-use Rattle.wire.proofs.First.{every_true}
 use Rattle.ladder.specs.Arithmetic.{◌⊞◌, ◌⊟◌, ◌⊠◌, f64}
 use Rattle.ladder.specs.declared.Network.{Network}
 use Rattle.ladder.specs.declared.Row.{Row}

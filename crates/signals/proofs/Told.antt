@@ -1,20 +1,17 @@
 -- The table of scales at a selection, and the sums' bytes.
 use mathlib.Core.Path.{◌≡◌, refl, sym, ◌∙◌}
-use mathlib.Core.Bool.{true, false}
 use mathlib.Core.List.{List}
 use Prim.Native.Nat.{ℕ, zero, suc, ◌≤◌, ◌<◌}
 use native.Mathlib.Nat.{le_of_eq}
 use native.Mathlib.Omega.{arith}
 use lib.ListN.{length, get_or-replicate, get_or-eq_default}
-use lib.Ieee.{Float, nan, binary32, of_bits, to_bits, eq}
+use lib.Ieee.{nan, binary32, of_bits, to_bits}
 use Rattle.constants.specs.Values as K
-use Rattle.floats.specs.Arithmetic.{◌⊕◌, f32}
+use Rattle.floats.specs.Arithmetic.{f32}
 use Rattle.wire.specs.Wire.{bytes_of, row_bytes, put_at}
 use Rattle.wire.proofs.Laws.{put_at-join, put_at-whole}
-use Rattle.voice.specs.declared.VoiceSignal.{VoiceSignal}
-use Rattle.voice.specs.Levels.{mixer_voice_signal_of}
 use Rattle.signals.specs.declared.RoutedSignals.{RoutedSignals}
-use Rattle.signals.specs.Signals.{with_bypass, is_pure_of, add_pure_voice_of, add_bypass_voice_of, attack_scale_of}
+use Rattle.signals.specs.Signals.{attack_scale_of}
 use Rattle.signals.specs.Collecting.{signal_bytes}
 
 -- ---- the table of scales
