@@ -1,101 +1,60 @@
--- Lists of twelve that a loop fills entry by entry, and the steps of the definitions at an index of the code.
-use Prim.Native.Nat.{ℕ, zero, suc, ◌+◌, ◌-◌, ◌/◌, ◌^◌, ◌≤◌, ◌<◌}
-use mathlib.Core.Path.{◌≡◌, refl, sym, ◌∙◌}
-use mathlib.Core.Logic.{⊎_elim}
-use mathlib.Core.Bool.{Bool, true, false, cond}
-use mathlib.Core.List.{List, [], ◌∷◌}
-use native.Mathlib.Omega.{arith}
-use native.Mathlib.Nat.{eq-or-lt_of_le, div-div-eq-div-mul, pow-suc}
-use native.Mathlib.Numerals.{add-one}
-use lib.Dec.{eqb}
-use lib.ListN.{length, set, replicate, length-set, length-append, get_or-replicate, get_or-append}
-use lib.Seq.{get_or-set_same, get_or-set_other, get_or_at, ext_get_or}
-use lib.Ieee.{Float, nan}
-use borrow.Author.Tests.{eqb-true, eqb-false, eq-eqb, ne_eqb}
-use Rattle.ladder.specs.Arithmetic.{◌⊞◌, ◌⊟◌, ◌⊠◌}
-use Rattle.ladder.specs.Ladder.{at, tabulated, sum_of, next_row_of, row_at, result_from}
-
--- ---- lists
-
-module _ (f : ℕ → Float) where
-  length_tabulated : (n : ℕ) → length (tabulated f n) ≡ n
-  unfolding tabulated
-  length_tabulated zero = refl
-  length_tabulated (suc n) = omega (arith, length-append (tabulated f n) (f n ∷ []), length_tabulated n)
-
-  pub at_tabulated : (n k : ℕ) → k < n → at (tabulated f n) k ≡ f k
-  unfolding tabulated
-  at_tabulated zero k h = absurd (omega arith)
-  at_tabulated (suc n) k h =
-      ⊎_elim
-      (λ (e : suc k ≡ suc n). let q : k ≡ n = omega arith in rw q (get_or_at (tabulated f n) (f n) [] nan n (length_tabulated n)))
-      (λ (l : suc k < suc n). get_or-append (tabulated f n) (f n ∷ []) nan k (omega (arith, length_tabulated n)) ∙ at_tabulated n k (omega arith))
-      (eq-or-lt_of_le h)
-
-  -- Twelve entries, of which those from a on and below b are f's.
-  pub record Filled (a b : ℕ) (xs : List Float) : Type 0 where
-    pub long : length xs ≡ 12
-    pub entry : (k : ℕ) → a ≤ k → k < b → at xs k ≡ f k
-
-  pub filled_none : (a : ℕ) {xs : List Float} → length xs ≡ 12 → Filled a a xs
-  filled_none a l = record { long = l; entry = λ k h g. absurd (omega arith) }
-
-  pub filled_all : {a b : ℕ} {xs : List Float} → a ≤ 0 → 12 ≤ b → Filled a b xs → xs ≡ tabulated f 12
-  filled_all {a} {b} {xs} p q r =
-      ext_get_or nan xs (tabulated f 12) (r.long ∙ sym (length_tabulated 12))
-      (λ k h. let l : k < 12 = omega (arith, r.long) in r.entry k (omega arith) (omega arith) ∙ sym (at_tabulated 12 k l))
-
-  -- One entry more, at either end.
-  module _ (xs : List Float) (i : ℕ) (v : Float) (h : i < 12) (e : v ≡ f i) where
-    stored : (k : ℕ) → length xs ≡ 12 → ((k ≡ i → ⊥) → at xs k ≡ f k) → at (set xs i v) k ≡ f k
-    stored k l other = go (eqb k i) refl
-      where
-        go : (t : Bool) → eqb k i ≡ t → at (set xs i v) k ≡ f k
-        go true q = rw (eqb-true k i q) (get_or-set_same xs i v nan (omega arith) ∙ e)
-        go false q = get_or-set_other xs i k v nan (eqb-false k i q) ∙ other (eqb-false k i q)
-
-    pub filled_up : (a : ℕ) → Filled a i xs → Filled a (i + 1) (set xs i v)
-    filled_up a r =
-        record {
-          long = length-set xs i v ∙ r.long;
-          entry = λ k p q. stored k r.long (λ n. ⊎_elim (λ (s : suc k ≡ i + 1). absurd (n (omega arith))) (λ (s : suc k < i + 1). r.entry k p (omega arith)) (eq-or-lt_of_le q));
-        }
-
-    pub filled_down : {a : ℕ} (b : ℕ) → a ≤ i + 1 → Filled a b xs → Filled i b (set xs i v)
-    filled_down b l r =
-        record {
-          long = length-set xs i v ∙ r.long;
-          entry = λ k p q. stored k r.long (λ n. ⊎_elim (λ (s : i ≡ k). absurd (n (sym s))) (λ (s : i < k). r.entry k (omega arith) q) (eq-or-lt_of_le p));
-        }
-
--- Zeros with one entry stored.
-pub tabulated_one : (z v : Float) (i : ℕ) → i < 12 → set (replicate 12 z) i v ≡ tabulated (λ k. cond (eqb k i) v z) 12
-tabulated_one z v i h =
-    filled_all (λ k. cond (eqb k i) v z) {a = 0} {b = 12} (omega arith) (omega arith)
-    record {
-      long = length-set (replicate 12 z) i v;
-      entry = λ k p q.
-          stored (λ k. cond (eqb k i) v z) (replicate 12 z) i v h (rw (eq-eqb i i refl)) k refl
-          (λ n. rw (ne_eqb k i n) (get_or-replicate 12 k z nan q));
-    }
+-- Sums of what a function gives, a list with one entry stored, and the steps of the definitions at an index of the code.
+use Rattle.std.proofs.Common.{◌≡◌, ℕ, zero, suc, ◌+◌, ◌-◌, ◌<◌, ◌≤◌, Bool, true, false, List, length, get_or, refl, ◌∙◌, ap, map, add-one, arith}
+use Rattle.std.proofs.Common.{get_or-set_same, get_or-set_other}
+use Rattle.std.specs.Prelude.{eqb, Float}
+use Rattle.std.specs.List.{range_with_len, fold, enumerate_from}
+use Rattle.std.specs.Float.{nan}
+use Rattle.std.proofs.lemmas.List.FromFn.{map-range_with_len_more, fill_by_all, get_or-enumerate_from, length-enumerate_from}
+use Rattle.std.proofs.lemmas.List.Sums.{fold-append}
+use borrow.Author.Tests.{eqb-true, eqb-false}
+use lib.ListN.{set}
+use Rattle.std.proofs.lemmas.List.{get_or-map, length-map}
+use Rattle.ladder.specs.Arithmetic.{◌⊞◌, ◌⊟◌, ◌⊠◌, f64}
+use Rattle.ladder.specs.declared.Network.{Network}
+use Rattle.ladder.specs.declared.Row.{Row}
+use Rattle.ladder.specs.Ladder.{at, sum_of, next_row_of, row_at, row_in, result_from}
 
 -- ---- sums
 
-pub sum_more : (f : ℕ → Float) (i : ℕ) → sum_of f i ⊞ f i ≡ sum_of f (i + 1)
+-- the sum over a list is the one of its entries in turn
+fold_sum : (f : ℕ → Float) (n : ℕ) → fold (λ a x. a ⊞ x) (f64 0x8000_0000_0000_0000) (map f (range_with_len 0 n)) ≡ sum_of f n
 unfolding sum_of
-sum_more f i = rw add-one
+fold_sum f zero = refl
+fold_sum f (suc n) = let more = rw add-one at (map-range_with_len_more f 0 n n (omega arith)) in rw (more, fold-append, fold_sum f n) refl
 
-pub halved : (n i : ℕ) → n / 2 ^ i / 2 ≡ n / 2 ^ (i + 1)
-halved n i = rw (div-div-eq-div-mul n (2 ^ i) 2, add-one, pow-suc)
+pub sum_told : (f : ℕ → Float) (xs : List Float) (n : ℕ) → length xs ≡ n → ((k : ℕ) → k < n → at xs k ≡ f k)
+    → fold (λ a x. a ⊞ x) (f64 0x8000_0000_0000_0000) xs ≡ sum_of f n
+sum_told f xs n l h = rw (fill_by_all f xs n nan l h) (fold_sum f n)
+
+-- the same of each entry with its place
+pub enumerated_sum : (h : ℕ × Float → Float) (xs : List Float) (n : ℕ) → length xs ≡ n
+    → fold (λ a x. a ⊞ x) (f64 0x8000_0000_0000_0000) (map h (enumerate_from 0 xs)) ≡ sum_of (λ k. h (k, at xs k)) n
+enumerated_sum h xs n l =
+    let es = enumerate_from 0 xs in
+    let long : length es ≡ n = length-enumerate_from 0 xs ∙ l in
+    sum_told (λ k. h (k, at xs k)) (map h es) n (length-map es h ∙ long)
+    (λ k b.
+    let place : 0 + k ≡ k = omega arith in
+    get_or-map h es k (0, nan) nan (omega arith) ∙ ap h (get_or-enumerate_from 0 xs k (0, nan) (omega arith) ∙ ap (λ (i : ℕ). (i, at xs k)) place))
+
+-- ---- one entry stored
+
+pub stored : {X : Type 0} (f : ℕ → X) (xs : List X) (i k : ℕ) (v d : X) → i < length xs → v ≡ f i → ((k ≡ i → ⊥) → get_or xs k d ≡ f k) → get_or (set xs i v) k d ≡ f k
+stored f xs i k v d h e other = go (eqb k i) refl
+  where
+    go : (t : Bool) → eqb k i ≡ t → get_or (set xs i v) k d ≡ f k
+    go true q = rw (eqb-true k i q) (get_or-set_same xs i v d h ∙ e)
+    go false q = get_or-set_other xs i k v d (eqb-false k i q) ∙ other (eqb-false k i q)
 
 -- ---- the elimination and the substitution
 
-pub row_next : (lower diagonal upper rhs : List Float) (i : ℕ) → 1 ≤ i → next_row_of lower diagonal upper rhs i (row_at lower diagonal upper rhs (i - 1)) ≡ row_at lower diagonal upper rhs i
+pub row_next : (n : Network) (i : ℕ) → 1 ≤ i → next_row_of n i (row_at n (i - 1)) ≡ row_at n i
 unfolding row_at
-row_next lower diagonal upper rhs zero h = absurd (omega arith)
-row_next lower diagonal upper rhs (suc i) h = let q : suc i - 1 ≡ i = omega arith in rw q
+row_next n zero h = absurd (omega arith)
+row_next n (suc i) h = let q : suc i - 1 ≡ i = omega arith in rw q refl
 
 -- a row from the row below it
-pub result_row : (c d : List Float) (i : ℕ) {x : Float} → i < 11 → x ≡ result_from c d (11 - (i + 1)) (i + 1) → at d i ⊟ at c i ⊠ x ≡ result_from c d (11 - i) i
+pub result_row : (rows : List Row) (i : ℕ) {x : Float} → i < 11 → x ≡ result_from rows (11 - (i + 1)) (i + 1)
+    → (row_in rows i).d ⊟ (row_in rows i).c ⊠ x ≡ result_from rows (11 - i) i
 unfolding result_from
-result_row c d i h e = let q : 11 - i ≡ suc (11 - (i + 1)) = omega arith in rw (e, q, add-one)
+result_row rows i h e = let q : 11 - i ≡ suc (11 - (i + 1)) = omega arith in rw (e, q, add-one) refl

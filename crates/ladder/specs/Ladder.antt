@@ -1,13 +1,14 @@
 -- The resistor ladder of tables.rs, operation by operation, with 12 nodes. A list stands for an array, and its places count from 0.
-use Rattle.std.specs.Prelude.{ℕ, zero, suc, ◌+◌, ◌-◌, ◌/◌, ◌%◌, ◌^◌, Bool, false, cond, ◌&&◌, List, [], ◌∷◌, ◌++◌, ltb, eqb, get_or, replicate, Float}
+use Rattle.std.specs.Prelude.{ℕ, zero, suc, ◌+◌, ◌-◌, ◌/◌, ◌%◌, ◌^◌, Bool, false, cond, ◌&&◌, List, [], ◌∷◌, ◌++◌, ltb, eqb, get_or, replicate, map, Float}
+use Rattle.std.specs.List.{range_with_len}
 use Rattle.std.specs.Float.{nan, binary32}
 use Rattle.std.specs.Float.Ieee.{neg, mul}
 use Rattle.constants.specs.Values.{sid_filter_dac_two_r_over_r, sid_dac_leakage}
 use Rattle.floats.specs.Arithmetic.{f32}
 use Rattle.floats.specs.Floats.{clamp_of, narrow_of}
 use Rattle.ladder.specs.Arithmetic.{◌⊞◌, ◌⊟◌, ◌⊠◌, ◌⧄◌, f64}
+use Rattle.ladder.specs.declared.Network.{Network}
 use Rattle.ladder.specs.declared.Row.{Row}
-use Rattle.ladder.specs.declared.Swept.{Swept}
 use Rattle.ladder.specs.declared.Scale.{Scale}
 
 -- ---- lists
@@ -17,9 +18,8 @@ abbrev pub at : List Float → ℕ → Float
 at xs i = get_or xs i nan
 
 -- The entries f 0 to f (n - 1).
-unfoldable pub tabulated : (ℕ → Float) → ℕ → List Float
-tabulated f zero = []
-tabulated f (suc n) = tabulated f n ++ f n ∷ []
+unfoldable pub tabulated : {X : Type 0} → (ℕ → X) → ℕ → List X
+tabulated f n = map f (range_with_len 0 n)
 
 -- `sum()` of f 0 to f (n - 1), in this order. In rustc 1.95 it starts from -0.0.
 unfoldable pub sum_of : (ℕ → Float) → ℕ → Float
@@ -28,38 +28,42 @@ sum_of f (suc n) = sum_of f n ⊞ f n
 
 -- ---- `solve_tridiagonal`
 
--- The elimination's first row.
-abbrev pub first_row_of : List Float → List Float → List Float → Row
-first_row_of diagonal upper rhs = record { c = at upper 0 ⧄ at diagonal 0; d = at rhs 0 ⧄ at diagonal 0 }
+module _ (n : Network) where
+  -- The elimination's first row.
+  abbrev pub first_row_of : Row
+  first_row_of = record { c = at n.upper 0 ⧄ at n.diagonal 0; d = at n.rhs 0 ⧄ at n.diagonal 0 }
 
-module _ (lower diagonal upper rhs : List Float) where
   -- Row i from the row before it. The last row's c is 0.0.
   unfoldable pub next_row_of : ℕ → Row → Row
   next_row_of i before =
-      let denominator = at diagonal i ⊟ at lower i ⊠ before.c in
+      let denominator = at n.diagonal i ⊟ at n.lower i ⊠ before.c in
       record {
-        c = cond (ltb (i + 1) 12) (at upper i ⧄ denominator) (f64 0);
-        d = (at rhs i ⊟ at lower i ⊠ before.d) ⧄ denominator;
+        c = cond (ltb (i + 1) 12) (at n.upper i ⧄ denominator) (f64 0);
+        d = (at n.rhs i ⊟ at n.lower i ⊠ before.d) ⧄ denominator;
       }
 
   unfoldable pub row_at : ℕ → Row
-  row_at zero = first_row_of diagonal upper rhs
+  row_at zero = first_row_of
   row_at (suc i) = next_row_of (suc i) (row_at i)
 
-  abbrev pub sweep_of : Swept
-  sweep_of = record { c = tabulated (λ i. (row_at i).c) 12; d = tabulated (λ i. (row_at i).d) 12 }
+  abbrev pub sweep_of : List Row
+  sweep_of = tabulated row_at 12
+
+-- The row at a place.
+abbrev pub row_in : List Row → ℕ → Row
+row_in rows i = get_or rows i (record { c = nan; d = nan })
 
 -- Row i of the solution, with n rows below it: the last is d, and each other takes the one below it in.
-unfoldable pub result_from : List Float → List Float → ℕ → ℕ → Float
-result_from c d zero i = at d i
-result_from c d (suc n) i = at d i ⊟ at c i ⊠ result_from c d n (suc i)
+unfoldable pub result_from : List Row → ℕ → ℕ → Float
+result_from rows zero i = (row_in rows i).d
+result_from rows (suc n) i = (row_in rows i).d ⊟ (row_in rows i).c ⊠ result_from rows n (suc i)
 
 -- The substitution, from the last row to the first.
-abbrev pub substitute_of : Swept → List Float
-substitute_of s = tabulated (λ i. result_from s.c s.d (11 - i) i) 12
+abbrev pub substitute_of : List Row → List Float
+substitute_of rows = tabulated (λ i. result_from rows (11 - i) i) 12
 
-unfoldable pub solve_of : List Float → List Float → List Float → List Float → List Float
-solve_of lower diagonal upper rhs = substitute_of (sweep_of lower diagonal upper rhs)
+unfoldable pub solve_of : Network → List Float
+solve_of n = substitute_of (sweep_of n)
 
 -- ---- `ladder_weights`
 
@@ -96,7 +100,7 @@ right_side_of source active = tabulated (λ node. add_if (eqb node active) (f64 
 -- The last node's level when one node is driven.
 unfoldable pub driven_level_of : Float → List Float → ℕ → Float
 driven_level_of source diagonal active =
-    at (solve_of lower_of diagonal upper_of (right_side_of source active)) 11
+    at (solve_of (record { lower = lower_of; diagonal = diagonal; upper = upper_of; rhs = right_side_of source active })) 11
 
 abbrev pub driven_levels_of : Float → List Float → List Float
 driven_levels_of source diagonal = tabulated (driven_level_of source diagonal) 12

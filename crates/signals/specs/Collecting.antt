@@ -1,8 +1,8 @@
 -- The call on lent bytes: 10, 11, 6, and the eight sums in 32 bytes.
-use Rattle.std.specs.Prelude.{ℕ, Bool, ◌&&◌, cond, List, ◌++◌, leb, eqb, length, Err, is_ok}
+use Rattle.std.specs.Prelude.{ℕ, Bool, ◌&&◌, cond, List, ◌++◌, leb, eqb, length, is_ok}
 use Rattle.std.specs.Float.Ieee.Scale.{finite}
 use Rattle.answers.specs.declared.Refusal.TheVariants.{Argument, Sources, Domain}
-use Rattle.answers.specs.Answers.{first_of, unless_of, Answer}
+use Rattle.answers.specs.Answers.{Answer, first_of, unless_of}
 use Rattle.wire.specs.Wire.{float_bytes}
 use Rattle.mixing.specs.Topology.{topology_of}
 use Rattle.voice.specs.Levels.{source_resting_of}

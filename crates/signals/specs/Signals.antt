@@ -1,5 +1,5 @@
 -- `RoutedSignals::collect` of mixing.rs and what it calls, operation by operation: the eight sums of what the sources give the filter and the mixer.
-use Rattle.std.specs.Prelude.{ℕ, Bool, false, not, ◌&&◌, cond, eqb, get_or, Float}
+use Rattle.std.specs.Prelude.{ℕ, ◌/◌, ◌%◌, ◌^◌, Bool, false, not, ◌&&◌, ◌||◌, cond, ltb, eqb, get_or, Float}
 use Rattle.std.specs.Float.{nan}
 use Rattle.std.specs.Float.Ieee.{eq}
 use Rattle.constants.specs.Values as K
@@ -119,6 +119,10 @@ add_bypass_voice_of s v blend resting =
     (cond (is_pure_of v) (add_pure_voice_of sounding v) sounding)
 
 -- ---- all four sources
+
+-- whether a voice, from 0 on, is in a mask of three; one above 7 is all three
+abbrev pub is_masked_of : ℕ → ℕ → Bool
+is_masked_of mask voice = ltb 7 mask || eqb (mask / 2 ^ voice % 2) 1
 
 -- `match` on a mask of the three voices: those whose bit is set, in turn
 unfoldable pub masked_of : (RoutedSignals → RoutedSignals) → (RoutedSignals → RoutedSignals) → (RoutedSignals → RoutedSignals) → ℕ → RoutedSignals → RoutedSignals

@@ -1,9 +1,9 @@
 // What the voices and the external input give the filter and the mixer: eight sums.
 #![tactic(auto)]
 
-ghost use Rattle.std.specs.Prelude.{◌≡◌, cond, ◌≤◌, length};
+ghost use Rattle.std.specs.Prelude.{◌≡◌, ◌<◌, ◌≤◌, length, IsTrue, MatchBool};
 ghost use Rattle.signals.specs.Signals as S;
-ghost use Rattle.signals.specs.Lent.{voices_of, valid_voices_of, external_of, blends_of, finite_three_at, finite_numbers_of};
+ghost use Rattle.signals.specs.Lent.{voices_of, valid_voices_of, external_of, blends_of, finite_numbers_of};
 ghost use Rattle.signals.specs.Collecting as C;
 
 use answers::{Answer, Refusal};
@@ -13,7 +13,7 @@ use voice::VoiceSignal;
 
 // The sums, each from 0.0 on: of what the filter takes the levels, the energy and the envelopes; of what goes beside it the levels and the envelopes, and of
 // the pure voices there the envelopes, the attack drives and the envelopes of the pulses.
-#[derive(Clone, Copy)]
+#[derive(Clone, Copy, Default)]
 pub struct RoutedSignals {
     pub filter_input_sum: f32,
     pub filter_source_energy: f32,
@@ -32,7 +32,7 @@ struct Contribution {
     energy: f32,
 }
 
-// Voices 1, 2 and 3.
+// Voices 1, 2 and 3. Three names and no array: whoever reads one names its voice.
 #[derive(Clone, Copy)]
 pub struct Voices {
     pub one: VoiceSignal,
@@ -50,6 +50,7 @@ pub struct ExternalInputState {
 
 // ---- one voice
 
+#[tactic(auto, unfolding(crate::specs::Signals::filter_voice_contribution_of))]
 fn filter_voice_contribution(signal: VoiceSignal, source_resting: f32) -> Contribution
     ensures { result ≡ S.filter_voice_contribution_of signal source_resting }
 {
@@ -68,6 +69,7 @@ fn filter_voice_contribution(signal: VoiceSignal, source_resting: f32) -> Contri
 }
 
 // Of the sixteen selections just three have a scale of their own. NaN past the table.
+#[tactic(auto, using(crate::proofs::Told::scale_one, crate::proofs::Told::scale_two, crate::proofs::Told::scale_four, crate::proofs::Told::other_scale, crate::proofs::Told::past_scale))]
 fn attack_scale(selection: u8) -> f32
     ensures { result ≡ S.attack_scale_of selection }
 {
@@ -75,10 +77,12 @@ fn attack_scale(selection: u8) -> f32
         1 => 1.49,
         2 => 0.0,
         4 => 0.865,
-        _ => { if selection <= 15 { 1.0 } else { 0.0 / 0.0 } }
+        0..=15 => 1.0,
+        _ => f32::NAN,
     }
 }
 
+#[tactic(auto, unfolding(crate::specs::Signals::waveform_state_load_of))]
 fn waveform_state_load(waveform: f32) -> f32
     ensures { result ≡ S.waveform_state_load_of waveform }
 {
@@ -89,22 +93,16 @@ fn waveform_state_load(waveform: f32) -> f32
     )
 }
 
-impl RoutedSignals {
-    fn silent() -> Self
-        ensures { result ≡ S.silent_of }
-    {
-        Self {
-            filter_input_sum: 0.0,
-            filter_source_energy: 0.0,
-            filter_input_activity: 0.0,
-            bypass_input_sum: 0.0,
-            bypass_envelope_activity: 0.0,
-            pure_bypass_envelope_activity: 0.0,
-            pure_bypass_attack_drive: 0.0,
-            pure_pulse_envelope_activity: 0.0,
-        }
-    }
+// Whether a voice, from 0 on, is in a mask of three. A mask above 7 is all three.
+fn is_masked(mask: u8, voice: u8) -> bool
+    requires { voice < 3 }
+    ensures { result ≡ S.is_masked_of mask voice }
+{
+    (7 < mask) | ((mask >> voice) % 2 == 1)
+}
 
+impl RoutedSignals {
+    #[tactic(auto, unfolding(crate::specs::Signals::add_filter_voice_of))]
     fn add_filter_voice(mut self, signal: VoiceSignal, source_resting: f32) -> Self
         ensures { result ≡ S.add_filter_voice_of self signal source_resting }
     {
@@ -115,6 +113,7 @@ impl RoutedSignals {
         self
     }
 
+    #[tactic(auto, unfolding(crate::specs::Signals::add_pure_voice_of))]
     fn add_pure_voice(mut self, signal: VoiceSignal) -> Self
         ensures { result ≡ S.add_pure_voice_of self signal }
     {
@@ -130,6 +129,7 @@ impl RoutedSignals {
         self
     }
 
+    #[tactic(auto, unfolding(crate::specs::Signals::add_bypass_voice_of))]
     fn add_bypass_voice(mut self, signal: VoiceSignal, saw_blend: f32, source_resting: f32) -> Self
         ensures { result ≡ S.add_bypass_voice_of self signal saw_blend source_resting }
     {
@@ -146,55 +146,29 @@ impl RoutedSignals {
         self
     }
 
-    // The same where a voice is routed so.
-    fn filter_voice_if(self, on: bool, signal: VoiceSignal, source_resting: f32) -> Self
-        ensures { result ≡ cond on (S.add_filter_voice_of self signal source_resting) self }
+    fn add_filter_external(mut self, external: ExternalInputState, source_resting: f32) -> Self
+        ensures { result ≡ S.add_filter_external_of external source_resting self }
     {
-        if on {
-            return self.add_filter_voice(signal, source_resting);
-        }
+        let deviation = external.filter_signal - source_resting;
+        self.filter_input_sum += external.filter_signal;
+        self.filter_source_energy += deviation * deviation;
         self
     }
 
-    fn bypass_voice_if(
-        self,
-        on: bool,
-        signal: VoiceSignal,
-        saw_blend: f32,
-        source_resting: f32,
-    ) -> Self
-        ensures { result ≡ cond on (S.add_bypass_voice_of self signal saw_blend source_resting) self }
+    fn add_bypass_external(mut self, external: ExternalInputState) -> Self
+        ensures { result ≡ S.add_bypass_external_of external self }
     {
-        if on {
-            return self.add_bypass_voice(signal, saw_blend, source_resting);
-        }
+        self.bypass_input_sum += external.mixer_signal;
+        self.bypass_envelope_activity += floats::abs(external.raw);
         self
     }
 
-    fn filter_external_if(
-        mut self,
-        on: bool,
-        external: ExternalInputState,
-        source_resting: f32,
-    ) -> Self
-        ensures { result ≡ cond on (S.add_filter_external_of external source_resting self) self }
+    // The same with a source added where it is routed so.
+    fn with_if<F: FnOnce(Self) -> Self>(self, routed: bool, add: F) -> Self
+        requires { IsTrue routed → F.pre add self }
+        ensures { MatchBool routed (F.post add self result) (result ≡ self) }
     {
-        if on {
-            let deviation = external.filter_signal - source_resting;
-            self.filter_input_sum += external.filter_signal;
-            self.filter_source_energy += deviation * deviation;
-        }
-        self
-    }
-
-    fn bypass_external_if(mut self, on: bool, external: ExternalInputState) -> Self
-        ensures { result ≡ cond on (S.add_bypass_external_of external self) self }
-    {
-        if on {
-            self.bypass_input_sum += external.mixer_signal;
-            self.bypass_envelope_activity += floats::abs(external.raw);
-        }
-        self
+        if routed { add(self) } else { self }
     }
 }
 
@@ -211,37 +185,39 @@ impl Voices {
     ) -> RoutedSignals
         ensures { result ≡ S.add_voices_of topology self blends source_resting sums }
     {
-        let one = self.one;
-        let two = self.two;
-        let three = self.three;
+        let Self { one, two, three } = self;
         let filter = topology.filter_internal_mask;
         let bypass = topology.bypass_internal_mask;
-        let f1 = sums.filter_voice_if((7 < filter) | (filter % 2 == 1), one, source_resting);
-        let f2 = f1.filter_voice_if((7 < filter) | (filter / 2 % 2 == 1), two, source_resting);
-        let f3 = f2.filter_voice_if((7 < filter) | (filter / 4 % 2 == 1), three, source_resting);
-        let b1 = f3.bypass_voice_if(
-            (7 < bypass) | (bypass % 2 == 1),
-            one,
-            blends.one,
-            source_resting,
-        );
-        let b2 = b1.bypass_voice_if(
-            (7 < bypass) | (bypass / 2 % 2 == 1),
-            two,
-            blends.two,
-            source_resting,
-        );
-        b2.bypass_voice_if(
-            (7 < bypass) | (bypass / 4 % 2 == 1),
-            three,
-            blends.three,
-            source_resting,
+        sums.with_if(
+            is_masked(filter, 0),
+            |s| s.add_filter_voice(one, source_resting),
+        )
+        .with_if(
+            is_masked(filter, 1),
+            |s| s.add_filter_voice(two, source_resting),
+        )
+        .with_if(
+            is_masked(filter, 2),
+            |s| s.add_filter_voice(three, source_resting),
+        )
+        .with_if(
+            is_masked(bypass, 0),
+            |s| s.add_bypass_voice(one, blends.one, source_resting),
+        )
+        .with_if(
+            is_masked(bypass, 1),
+            |s| s.add_bypass_voice(two, blends.two, source_resting),
+        )
+        .with_if(
+            is_masked(bypass, 2),
+            |s| s.add_bypass_voice(three, blends.three, source_resting),
         )
     }
 }
 
 impl ExternalInputState {
     // Adds it to the filter's sums or to the mixer's.
+    #[tactic(auto, unfolding(crate::specs::Signals::add_external_of))]
     fn add_to(
         self,
         sums: RoutedSignals,
@@ -250,15 +226,19 @@ impl ExternalInputState {
     ) -> RoutedSignals
         ensures { result ≡ S.add_external_of topology self source_resting sums }
     {
-        let filter = topology.filter_membership;
-        let bypass = topology.bypass_membership;
-        let filtered = sums.filter_external_if(filter[3], self, source_resting);
-        filtered.bypass_external_if(bypass[3], self)
+        sums.with_if(topology.filter_membership[3], |s| {
+            s.add_filter_external(self, source_resting)
+        })
+        .with_if(
+            topology.bypass_membership[3],
+            |s| s.add_bypass_external(self),
+        )
     }
 }
 
 impl RoutedSignals {
     // The voices in turn, then the external input.
+    #[tactic(auto, unfolding(crate::specs::Signals::collect_of))]
     pub fn collect(
         topology: MixingTopology,
         voices: Voices,
@@ -268,12 +248,13 @@ impl RoutedSignals {
     ) -> Self
         ensures { result ≡ S.collect_of topology voices saw_mixer_blend external source_resting }
     {
-        let silent = RoutedSignals::silent();
+        let silent = Self::default();
         let voiced = voices.add_to(silent, topology, saw_mixer_blend, source_resting);
         external.add_to(voiced, topology, source_resting)
     }
 
-    // Whether each sum is finite.
+    // Whether each sum is finite, with no branch from one to the next.
+    #[tactic(auto, unfolding(crate::specs::Collecting::finite_signals_of))]
     pub fn is_finite(self) -> bool
         ensures { result ≡ C.finite_signals_of self }
     {
@@ -314,6 +295,7 @@ impl RoutedSignals {
 // ---- lent bytes
 
 // The voices of 36 bytes, valid or not.
+#[tactic(auto, unfolding(crate::specs::Lent::voices_of))]
 pub fn voices_of(s: &[u8]) -> Voices
     ensures { result ≡ voices_of s.now }
 {
@@ -324,7 +306,8 @@ pub fn voices_of(s: &[u8]) -> Voices
     }
 }
 
-// Whether these are 36 bytes, and each voice valid.
+// Whether these are 36 bytes, and each voice valid, with no branch from one to the next.
+#[tactic(auto, unfolding(crate::specs::Lent::valid_voices_of))]
 pub fn valid_voices(s: &[u8]) -> bool
     ensures { result ≡ valid_voices_of s.now }
 {
@@ -335,6 +318,7 @@ pub fn valid_voices(s: &[u8]) -> bool
 }
 
 // The external input's levels, the first three of the numbers.
+#[tactic(auto, unfolding(crate::specs::Lent::external_of))]
 pub fn external_of(s: &[u8]) -> ExternalInputState
     ensures { result ≡ external_of s.now }
 {
@@ -346,6 +330,7 @@ pub fn external_of(s: &[u8]) -> ExternalInputState
 }
 
 // The blends, the last three.
+#[tactic(auto, unfolding(crate::specs::Lent::blends_of))]
 fn blends_of(s: &[u8]) -> SawBlends
     ensures { result ≡ blends_of s.now }
 {
@@ -356,31 +341,24 @@ fn blends_of(s: &[u8]) -> SawBlends
     }
 }
 
-fn finite_three_at(s: &[u8], p: usize) -> bool
-    requires { p ≤ 12 }
-    ensures { result ≡ finite_three_at s.now p }
-{
-    wire::finite_at(s, p) & wire::finite_at(s, p + 4) & wire::finite_at(s, p + 8)
-}
-
 // Whether these are 24 bytes, and each number finite.
 fn finite_numbers(s: &[u8]) -> bool
     ensures { result ≡ finite_numbers_of s.now }
 {
-    (s.len() == 24) & (finite_three_at(s, 0) & finite_three_at(s, 12))
+    (s.len() == 24) & (0..6).all(|i| wire::finite_at(s, 4 * i))
 }
 
+#[tactic(auto, unfolding(crate::specs::Collecting::judge_collect_of))]
 fn judge_collect(routing: u8, mode: u8, voices: &[u8], numbers: &[u8], room: usize) -> Answer
     ensures { result ≡ C.judge_collect_of routing mode voices.now numbers.now room }
 {
     let argument = (routing <= 15) & (mode <= 15) & (room == 32);
+    answers::unless(argument, Refusal::Argument)?;
     let sources = valid_voices(voices) & finite_numbers(numbers);
-    answers::first(
-        answers::unless(argument, Refusal::Argument),
-        answers::unless(sources, Refusal::Sources),
-    )
+    answers::unless(sources, Refusal::Sources)
 }
 
+#[tactic(auto, unfolding(crate::specs::Collecting::signals_of))]
 fn signals_of(routing: u8, mode: u8, voices: &[u8], numbers: &[u8]) -> RoutedSignals
     ensures { result ≡ C.signals_of routing mode voices.now numbers.now }
 {
@@ -394,18 +372,14 @@ fn signals_of(routing: u8, mode: u8, voices: &[u8], numbers: &[u8]) -> RoutedSig
 }
 
 // The sums of a routing and a mode nibble for the lent voices and numbers, into the lent bytes. Refuses 10, 11, 6, and then leaves them.
+#[tactic(auto, unfolding(crate::specs::Collecting::judge_collect_of, crate::specs::Collecting::collect_answer_of, crate::specs::Collecting::collected_of))]
 pub fn collect_lent(routing: u8, mode: u8, voices: &[u8], numbers: &[u8], sums: &mut [u8]) -> Answer
     ensures value { result ≡ C.collect_answer_of routing mode voices.now numbers.now (length sums.old) }
     ensures sums_after { sums.new ≡ C.collected_of routing mode voices.now numbers.now sums.old }
 {
-    let judged = judge_collect(routing, mode, voices, numbers, sums.len());
-    if judged.is_ok() {
-        let signals = signals_of(routing, mode, voices, numbers);
-        if signals.is_finite() {
-            signals.put(sums);
-            return Ok(());
-        }
-        return Err(Refusal::Domain);
-    }
-    judged
+    judge_collect(routing, mode, voices, numbers, sums.len())?;
+    let signals = signals_of(routing, mode, voices, numbers);
+    answers::unless(signals.is_finite(), Refusal::Domain)?;
+    signals.put(sums);
+    Ok(())
 }

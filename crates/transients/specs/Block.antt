@@ -3,7 +3,7 @@ use Rattle.std.specs.Prelude.{ℕ, Bool, ◌&&◌, List, [], ◌∷◌, ◌++◌
 use Rattle.std.specs.Float.Ieee.{le}
 use mir.Val.{bool_byte}
 use Rattle.answers.specs.declared.Refusal.TheVariants.{Decays}
-use Rattle.answers.specs.Answers.{unless_of, Answer}
+use Rattle.answers.specs.Answers.{Answer, unless_of}
 use Rattle.floats.specs.Arithmetic.{f32}
 use Rattle.wire.specs.Wire.{byte_at, f32_at, float_bytes}
 use Rattle.transients.specs.declared.TransientState.{TransientState}

@@ -11,19 +11,28 @@ use constants::{
     SID_VOLUME_TRANSITION_FAST_CHARGE_FULL_SCALE, SID_VOLUME_TRANSITION_SLOW_CHARGE_FULL_SCALE,
 };
 
-// How far each voice's saw is bent at the mixer.
+// How far each voice's saw is bent at the mixer. Three names and no array: whoever reads one names its voice.
 #[repr(C)]
-#[derive(Clone, Copy)]
+#[derive(Clone, Copy, Default)]
 pub struct SawBlends {
     pub one: f32,
     pub two: f32,
     pub three: f32,
 }
 
+impl SawBlends {
+    #[tactic(auto, unfolding(crate::specs::Transients::finite_blends_of))]
+    fn is_finite(self) -> bool
+        ensures { result ≡ T.finite_blends_of self }
+    {
+        floats::finite_f32(self.one) & floats::finite_f32(self.two) & floats::finite_f32(self.three)
+    }
+}
+
 // The charges that a step of the volume, an attack beside the filter and a pulse's gate leave; the conductance of the volume last written; the activity beside the
 // filter at the last tick; the saws' settling; and whether a pulse's gate has risen and is still to be heard. The Rust's struct without its decays and its tracking.
 #[repr(C)]
-#[derive(Clone, Copy)]
+#[derive(Clone, Copy, Default)]
 pub struct TransientState {
     pub volume_fast_charge: f32,
     pub volume_slow_charge: f32,
@@ -36,12 +45,12 @@ pub struct TransientState {
     pub pulse_gate_pending: bool,
 }
 
-// The conductance of a volume, the sixteen values of `response::volume_dac_conductance_code` written out: a write of the volume is frequent where a digi plays.
+// The conductance of a volume, the sixteen values of `response::volume_dac_conductance_code` written out, which is faster: a write of the volume is frequent where
+// a digi plays.
 fn conductance(volume: u8) -> f32
     ensures { result ≡ volume_dac_conductance_code_of volume }
 {
-    let code = volume % 16;
-    match code {
+    match volume % 16 {
         0 => 0.0,
         1 => 1.067_629_9,
         2 => 2.161_044_6,
@@ -61,12 +70,6 @@ fn conductance(volume: u8) -> f32
     }
 }
 
-fn finite_blends(b: SawBlends) -> bool
-    ensures { result ≡ T.finite_blends_of b }
-{
-    floats::finite_f32(b.one) & floats::finite_f32(b.two) & floats::finite_f32(b.three)
-}
-
 impl TransientState {
     // The bytes that it takes at the end of a state's block.
     pub const BYTES: usize = 44;
@@ -74,30 +77,17 @@ impl TransientState {
     pub fn new() -> Self
         ensures { result ≡ T.starting_transients }
     {
-        Self {
-            volume_fast_charge: 0.0,
-            volume_slow_charge: 0.0,
-            bypass_attack_charge: 0.0,
-            pulse_gate_fast_charge: 0.0,
-            pulse_gate_slow_charge: 0.0,
-            volume_conductance_code: 0.0,
-            previous_bypass_activity: 0.0,
-            saw_mixer_blend: SawBlends {
-                one: 0.0,
-                two: 0.0,
-                three: 0.0,
-            },
-            pulse_gate_pending: false,
-        }
+        Self::default()
     }
 
     // No charges, at a volume that has stood for long.
     pub fn at_volume(volume: u8) -> Self
         ensures { result ≡ T.at_volume_of volume }
     {
-        let mut still = TransientState::new();
-        still.volume_conductance_code = conductance(volume);
-        still
+        Self {
+            volume_conductance_code: conductance(volume),
+            ..Self::new()
+        }
     }
 
     // What a write of MODE/VOL charges: the step from the conductance before to the one of the new volume, which may be the same.
@@ -108,26 +98,25 @@ impl TransientState {
         let next = conductance(volume);
         let full = conductance(15);
         let step = (previous - next) / full;
-        self.volume_fast_charge = self.volume_fast_charge
-            + step * SID_VOLUME_TRANSITION_FAST_CHARGE_FULL_SCALE;
-        self.volume_slow_charge = self.volume_slow_charge
-            + step * SID_VOLUME_TRANSITION_SLOW_CHARGE_FULL_SCALE;
+        self.volume_fast_charge += step * SID_VOLUME_TRANSITION_FAST_CHARGE_FULL_SCALE;
+        self.volume_slow_charge += step * SID_VOLUME_TRANSITION_SLOW_CHARGE_FULL_SCALE;
         self.volume_conductance_code = next;
         self
     }
 
     // Whether the two charges that a write moves are finite.
+    #[tactic(auto, unfolding(crate::specs::Transients::finite_charges_of))]
     pub fn finite_charges(self) -> bool
         ensures { result ≡ T.finite_charges_of self }
     {
         floats::is_finite(self.volume_fast_charge) & floats::is_finite(self.volume_slow_charge)
     }
 
-    // Whether all ten floats are finite.
+    // Whether all ten floats are finite, with no branch from one to the next.
+    #[tactic(auto, unfolding(crate::specs::Transients::finite_transients_of))]
     pub fn is_finite(self) -> bool
         ensures { result ≡ T.finite_transients_of self }
     {
-        let blends = self.saw_mixer_blend;
         (floats::finite_f32(self.volume_fast_charge)
             & floats::finite_f32(self.volume_slow_charge)
             & floats::finite_f32(self.bypass_attack_charge)
@@ -135,10 +124,10 @@ impl TransientState {
             & (floats::finite_f32(self.pulse_gate_slow_charge)
                 & floats::finite_f32(self.volume_conductance_code)
                 & floats::finite_f32(self.previous_bypass_activity)
-                & finite_blends(blends))
+                & self.saw_mixer_blend.is_finite())
     }
 
-    // Its bytes in a state's block.
+    // Its bytes in a state's block, in stores of whole rows and words.
     pub fn bytes(self) -> [u8; 44]
         ensures { result ≡ B.transient_bytes self }
     {
@@ -167,6 +156,7 @@ impl TransientState {
     }
 
     // What a state's block holds of it, valid or not.
+    #[tactic(auto, unfolding(crate::specs::Block::transient_fields_of))]
     pub fn fields(block: &[u8]) -> Self
         ensures { result ≡ B.transient_fields_of block.now }
     {
@@ -187,7 +177,8 @@ impl TransientState {
         }
     }
 
-    // Whether the last four bytes of a state's block are 0 or 1, and three zeros.
+    // Whether the last four bytes of a state's block are 0 or 1, and three zeros. Byte by byte, since a word that is not all there reads as 0.
+    #[tactic(auto, unfolding(crate::specs::Block::tidy_transients_of))]
     pub fn tidy(block: &[u8]) -> bool
         ensures { result ≡ B.tidy_transients_of block.now }
     {
@@ -201,6 +192,7 @@ impl TransientState {
 // ---- the lent numbers
 
 // The float at a place is from 0 to 1. A NaN is not, and -0.0 is.
+#[tactic(auto, unfolding(crate::specs::Block::factor_at))]
 fn factor_at(s: &[u8], p: usize) -> bool
     ensures { result ≡ B.factor_at s.now p }
 {
@@ -209,14 +201,10 @@ fn factor_at(s: &[u8], p: usize) -> bool
 }
 
 // Six numbers from 0 to 1: what is left of each charge after a tick, and the part of its way that a saw settles in one. Refuses 12.
+#[tactic(auto, unfolding(crate::specs::Block::judge_decays_of))]
 pub fn judge_decays(decays: &[u8]) -> Answer
     ensures { result ≡ B.judge_decays_of decays.now }
 {
-    let charges = factor_at(decays, 0)
-        & factor_at(decays, 4)
-        & factor_at(decays, 8)
-        & factor_at(decays, 12)
-        & factor_at(decays, 16);
-    let tracking = factor_at(decays, 20);
-    answers::unless((decays.len() == 24) & charges & tracking, Refusal::Decays)
+    let factors = (0..6).all(|i| factor_at(decays, 4 * i));
+    answers::unless((decays.len() == 24) & factors, Refusal::Decays)
 }

@@ -1,15 +1,11 @@
--- The invariant: the levels below active are written.
-use mathlib.Core.Path.{refl}
-use native.Mathlib.Omega.{arith}
-use borrow.Author.Rules.{rules}
-use Rattle.ladder.proofs.Laws.{filled_none, filled_up, filled_all}
+use Rattle.std.proofs.Common.{rules}
+use Rattle.std.proofs.lemmas.List.FromFn.{fill_by_all}
+use Rattle.std.specs.Float.{nan}
+use Rattle.ladder.specs.Ladder.{tabulated, driven_level_of}
 use Rattle.ladder.proofs.driven_levels.Goals as goal
 
-pub loop-active-init : goal.loop-active-init
-loop-active-init c = (search rules, filled_none _ 0 refl)
-
-pub loop-active-preserved : goal.loop-active-preserved
-loop-active-preserved c = (search rules, filled_up _ c.loop-active.levels c.loop-active.active _ (omega arith) c.driven_level.ensures 0 c.loop-active.invariant.1)
-
 pub returns : goal.returns
-returns c = filled_all _ (search rules) (omega arith) c.loop-active.invariant.1
+unfolding tabulated
+returns c =
+    let made = c.from_fn.ensures.items in
+    fill_by_all (driven_level_of c.args.source c.args.diagonal) c.from_fn.result 12 nan made.long (λ k h. let at = made.at k nan h in search rules)

@@ -1,15 +1,19 @@
--- The invariant: the first i shares are written.
-use mathlib.Core.Path.{refl}
-use native.Mathlib.Omega.{arith}
-use borrow.Author.Rules.{rules}
-use Rattle.ladder.proofs.Laws.{filled_none, filled_up, filled_all}
+use Rattle.std.proofs.Common.{◌≡◌, refl, rules, ◌∙◌}
+use Rattle.std.proofs.lemmas.Iterator.{YieldsList-from_slice}
+use Rattle.std.proofs.lemmas.Iterator.Adapters.{total_from_yields_List}
+use Rattle.std.proofs.lemmas.List.FromFn.{fill_by_all}
+use Rattle.std.specs.Float.{nan}
+use Rattle.std.specs.Float.Ieee.{neg, of_bits}
+use Rattle.ladder.specs.Arithmetic.{◌⊞◌, ◌⧄◌}
+use Rattle.ladder.specs.Ladder.{at, tabulated, total_of}
+use Rattle.ladder.proofs.Laws.{sum_told}
 use Rattle.ladder.proofs.normalised.Goals as goal
 
-pub loop-i-init : goal.loop-i-init
-loop-i-init c = (search rules, filled_none _ 0 refl)
-
-pub loop-i-preserved : goal.loop-i-preserved
-loop-i-preserved c = (search rules, filled_up _ c.loop-i.shares c.loop-i.i _ (omega arith) (rw c.total-sum.ensures) 0 c.loop-i.invariant.1)
-
 pub returns : goal.returns
-returns c = filled_all _ (search rules) (omega arith) c.loop-i.invariant.1
+unfolding tabulated neg of_bits
+returns c =
+    let xs = c.args.xs in
+    let sum : c.sum-sum.result ≡ total_of xs =
+    total_from_yields_List (λ a x. a ⊞ x) _ _ c.sum-sum.ensures.ran (YieldsList-from_slice xs (cc)) ∙ sum_told (at xs) xs 12 (search rules) (λ k h. refl) in
+    let made = c.map.ensures.items in
+    fill_by_all (λ i. at xs i ⧄ total_of xs) c.map.result 12 nan made.long (λ k h. let at = made.at k nan nan h in rw (← sum) (search rules))

@@ -1,26 +1,25 @@
--- The invariant: the entries from i on are the solution's.
-use Prim.Native.Nat.{◌-◌, ◌+◌}
-use mathlib.Core.Path.{refl}
-use native.Mathlib.Omega.{arith}
-use lib.ListN.{replicate}
-use borrow.Author.Rules.{rules}
-use Rattle.ladder.specs.Arithmetic.{f64}
-use Rattle.ladder.specs.Ladder.{result_from}
-use Rattle.ladder.proofs.Laws.{filled_none, filled_down, filled_all, result_row}
+use Rattle.std.proofs.Common.{◌≡◌, ◌-◌, ◌+◌, ℕ, ◌∙◌, refl, arith}
+use Rattle.std.proofs.lemmas.List.FromFn.{fill_by_all}
+use Rattle.std.specs.Float.{nan}
+use lib.ListN.{length-set}
+use Rattle.ladder.specs.Ladder.{result_from, tabulated}
+use Rattle.ladder.proofs.Laws.{stored, result_row}
 use Rattle.ladder.proofs.substitute.Goals as goal
 
 pub loop-i-init : goal.loop-i-init
 unfolding result_from
-loop-i-init c =
-    let s = c.args.s in
-    (search rules, filled_down (λ k. result_from s.c s.d (11 - k) k) (replicate 12 (f64 0)) 11 _ (search rules) refl 12 (search rules) (filled_none _ 12 refl))
+loop-i-init c = (refl, λ k h l. let e : k ≡ 11 = omega arith in rw e refl)
 
 pub loop-i-preserved : goal.loop-i-preserved
 loop-i-preserved c =
-    let s = c.args.s in
+    let rows = c.args.rows.now in
+    let result = c.loop-i.result in
     let i = c.loop-i.i - 1 in
-    let below = c.loop-i.invariant.1.entry (i + 1) (omega arith) (omega arith) in
-    (search rules, filled_down (λ k. result_from s.c s.d (11 - k) k) c.loop-i.result i _ (omega arith) (result_row s.c s.d i (omega arith) below) 12 (omega arith) c.loop-i.invariant.1)
+    let below = c.loop-i.invariant.1 (i + 1) (omega arith) (omega arith) in (
+      length-set result i _ ∙ c.loop-i.invariant.0,
+      λ k h l. stored (λ (k : ℕ). result_from rows (11 - k) k) result i k _ _ (omega arith) (result_row rows i (omega arith) below) (λ other. c.loop-i.invariant.1 k (omega arith) l),
+    )
 
 pub returns : goal.returns
-returns c = filled_all _ c.loop-i-test.false (search rules) c.loop-i.invariant.1
+unfolding tabulated
+returns c = fill_by_all (λ (k : ℕ). result_from c.args.rows.now (11 - k) k) c.loop-i.result 12 nan c.loop-i.invariant.0 (λ k h. c.loop-i.invariant.1 k (omega arith) h)

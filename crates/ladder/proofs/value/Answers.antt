@@ -1,29 +1,22 @@
--- The invariant: rest is the code without its lowest bits, and sum the sum over those.
-use mathlib.Core.Path.{◌≡◌, refl, sym}
-use native.Mathlib.Nat.{div-one}
-use native.Mathlib.Omega.{arith}
-use borrow.Author.Rules.{rules}
-use borrow.Author.Tests.{eq-eqb, ne_eqb}
-use Rattle.ladder.specs.Ladder.{level_at, sum_of, value_of}
-use Rattle.ladder.proofs.Laws.{sum_more, halved}
+use Rattle.std.proofs.Common.{ℕ, rules, ◌∙◌}
+use Rattle.std.specs.Prelude.{Float}
+use Rattle.std.specs.Float.Ieee.{neg, of_bits}
+use Rattle.std.proofs.lemmas.Iterator.{YieldsList-from_slice, YieldsList-from_map}
+use Rattle.std.proofs.lemmas.Iterator.Adapters.{total_from_yields_List}
+use Rattle.std.proofs.lemmas.Iterator.Consumers.{YieldsList-from_enumerate, YieldsList-at}
+use borrow.Author.Tests.{tests}
+use Rattle.ladder.specs.Arithmetic.{◌⊞◌, ◌⊠◌}
+use Rattle.ladder.specs.Ladder.{level_at, value_of}
+use Rattle.ladder.proofs.Laws.{enumerated_sum}
 use Rattle.ladder.proofs.value.Goals as goal
-use Rattle.ladder.proofs.value.Goals.{then-rest-eq1, else-rest-eq1}
-
-pub loop-bit-init : goal.loop-bit-init
-unfolding sum_of
-loop-bit-init c = (search rules, sym (div-one c.args.code), refl)
-
-pub loop-bit-preserved : goal.loop-bit-preserved
-loop-bit-preserved c =
-    let a = c.args in
-    let bit = c.loop-bit.bit in
-    let level : c.if-rest-eq1.level ≡ level_at a.code a.leakage bit =
-    elim c.if-rest-eq1.branch [
-      | then-rest-eq1 w ↦ rw (w.level-is, ← c.loop-bit.invariant.1, eq-eqb _ _ w.if-rest-eq1.true)
-      | else-rest-eq1 w ↦ rw (w.level-is, ← c.loop-bit.invariant.1, ne_eqb _ _ w.if-rest-eq1.false)
-    ] in
-    (search rules, rw c.loop-bit.invariant.1 (halved a.code bit), rw (c.loop-bit.invariant.2, level) (sum_more _ bit))
 
 pub returns : goal.returns
-unfolding value_of
-returns c = let e : c.loop-bit.bit ≡ 12 = omega arith in rw e at c.loop-bit.invariant.2
+unfolding value_of neg of_bits
+returns c =
+    let xs = c.args.weights.now in
+    let share = λ (p : ℕ × Float). level_at c.args.code c.args.leakage p.0 ⊠ p.1 in
+    total_from_yields_List (λ a x. a ⊞ x) _ _ c.sum.ensures.ran
+    (YieldsList-from_map _ share
+    (YieldsList-at c.map.ensures.source (YieldsList-from_enumerate (YieldsList-at c.enumerate.ensures.source (YieldsList-from_slice xs (cc))) c.enumerate.ensures.count))
+    c.map.ensures.closure (λ x r q k. search (rules, tests)))
+    ∙ enumerated_sum share xs 12 (search rules)

@@ -1,3 +1,4 @@
+use Rattle.std.proofs.Common.{rules}
 use Rattle.transients.proofs.Volumes.{conductance_at, last_conductance}
 use Rattle.transients.proofs.conductance.Goals as goal
 
@@ -47,4 +48,4 @@ pub returns-in-14 : goal.returns-in-14
 returns-in-14 c = conductance_at c.args.volume 14 c.in-14.is
 
 pub returns-in_default : goal.returns-in_default
-returns-in_default c = last_conductance c.args.volume c.in_default.in_default-own.rest
+returns-in_default c = last_conductance c.args.volume (search rules)

@@ -1,5 +1,15 @@
-use Rattle.signals.proofs.Masks.{voices_told}
+use Rattle.std.proofs.Common.{rules}
+use Rattle.signals.proofs.Masks.{step_told, voices_told}
 use Rattle.signals.proofs.Voices.add_to.Goals as goal
 
 pub returns : goal.returns
-returns c = voices_told _ _ _ _ _ c.filter_voice_if-f1.ensures c.filter_voice_if-f2.ensures c.filter_voice_if-f3.ensures c.bypass_voice_if-b1.ensures c.bypass_voice_if-b2.ensures c.bypass_voice_if.ensures
+returns c =
+    let a = c.args in
+    voices_told a.topology a.self a.blends a.source_resting a.sums
+    {f1 = c.with_if.result} {f2 = c.with_if-2.result} {f3 = c.with_if-3.result} {b1 = c.with_if-4.result} {b2 = c.with_if-5.result}
+    (step_told _ c.is_masked.ensures (λ t. search rules) (λ t. search rules))
+    (step_told _ c.is_masked-2.ensures (λ t. search rules) (λ t. search rules))
+    (step_told _ c.is_masked-3.ensures (λ t. search rules) (λ t. search rules))
+    (step_told _ c.is_masked-4.ensures (λ t. search rules) (λ t. search rules))
+    (step_told _ c.is_masked-5.ensures (λ t. search rules) (λ t. search rules))
+    (step_told _ c.is_masked-6.ensures (λ t. search rules) (λ t. search rules))

@@ -1,4 +1,0 @@
-use Rattle.signals.proofs.RoutedSignals.bypass_external_if.Goals as goal
-
-pub returns-then-on : goal.returns-then-on
-returns-then-on c = simp (c.if-on.true, c.abs.ensures)
