@@ -139,11 +139,11 @@ module _ (lent : Lent) where
 
   played_first : (s : State) (es : List Event) → Event0 (first_of (judge_controls_of lent.bundle s) (first_answer lent s es)) es (played_of lent s es).answer (played_of lent s es).events
   unfolding played_of
-  played_first s es = let started = judge_controls_of lent.bundle s in go (is_ok started) started (first_answer lent s es) (play_of lent s es) refl (play_first s es)
+  played_first s es = go (judge_controls_of lent.bundle s) (first_answer lent s es) (play_of lent s es) (play_first s es)
     where
-      go : (d : Bool) (a b : Answer) (r : Ran) → is_ok a ≡ d → Event0 b es r.answer r.events → Event0 (cond d b a) es (cond d r (stopped a s)).answer (cond d r (stopped a s)).events
-      go true a b r h first = first
-      go false a b r h first = first_refused a es h
+      go : (a b : Answer) (r : Ran) → Event0 b es r.answer r.events → Event0 (first_of a b) es (cond (is_ok a) r (stopped a s)).answer (cond (is_ok a) r (stopped a s)).events
+      go (Ok _) b r first = first
+      go (Err refusal) b r first = first_refused (Err refusal) es refl
 
   played_done : (s : State) (es : List Event) → play_of lent s (take (played_of lent s es).events es) ≡ up_to (played_of lent s es)
   unfolding played_of play_of
@@ -217,11 +217,11 @@ module _ (lent : Lent) (block script output : List ℕ) where
   -- Event 0 is done unless the start, the controls or event 0 itself is refused, and a run that does none has that answer.
   pub no_stop_before_event_0 : Event0 (first_of judged (first_of started (first_answer lent start events))) events ran.answer ran.events
   unfolding run_of
-  no_stop_before_event_0 = go (is_ok judged) refl
+  no_stop_before_event_0 = go judged refl
     where
-      go : (d : Bool) → is_ok judged ≡ d → Event0 (first_of judged (first_of started (first_answer lent start events))) events ran.answer ran.events
-      go true h = rw h (played_first lent start events)
-      go false h = rw h (first_refused judged events h)
+      go : (a : Answer) → judged ≡ a → Event0 (first_of judged (first_of started (first_answer lent start events))) events ran.answer ran.events
+      go (Ok _) h = rw h (played_first lent start events)
+      go (Err refusal) h = rw h (first_refused (Err refusal) events refl)
 
   -- The output's bytes past the written samples are the old ones, and no byte is added or lost.
   pub tail_kept : (drop (16 * ran.samples) ran.output ≡ drop (16 * ran.samples) output) × (length ran.output ≡ length output)
