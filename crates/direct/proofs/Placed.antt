@@ -13,29 +13,32 @@ use Rattle.curves.specs.Sampling.{sample_curve_of, curve_point_of, summer_restin
 use Rattle.curves.proofs.Point.{Placed, none_placed, curve_placed}
 use Rattle.transfers.specs.Transfers.{mixer_slot_of, mixer_average_of, mixer_point_of, volume_slot_of, volume_point_of}
 use Rattle.sample.specs.Sample.{summer_slot_of, summer_inputs_of, average_of, summer_transfer_of, summer_point_of}
-use Rattle.direct.specs.Calls.{judged_point_of, sample_curve_answer_of, sample_curve_call_of, summer_answer_of, summer_transfer_call_of, mixer_answer_of, mixer_transfer_call_of, volume_answer_of, volume_transfer_call_of}
-use Rattle.answers.specs.Answers.{Answer}
-use Rattle.std.specs.Prelude.{is_ok}
+use Rattle.direct.specs.Calls.{finite_point_of, judged_point_of, sample_curve_answer_of, sample_curve_call_of, summer_answer_of, summer_transfer_call_of, mixer_answer_of, mixer_transfer_call_of, volume_answer_of, volume_transfer_call_of}
+use Rattle.answers.specs.declared.Refusal.TheVariants.{Domain}
+use Rattle.answers.specs.Answers.{Answer, unless_of}
+use Rattle.std.specs.Prelude.{Ok, Err, IfOk}
+use Rattle.std.specs.Result.{result_and}
 
--- A point is handed out where its value is finite; in its place there are zeros.
-judged_placed : (judged : Answer) (p : CurvePoint) → (finite p.value ≡ true → Placed p) → Placed (judged_point_of judged p).point
-judged_placed judged p placed = go (is_ok judged) (finite p.value) refl refl
+-- A point is handed out where its value is finite.
+judged_placed : (judged : Answer) (p : CurvePoint) → (finite p.value ≡ true → Placed p) → IfOk (judged_point_of judged p) Placed
+unfolding finite_point_of
+judged_placed (Ok _) p placed = go (finite p.value) refl
   where
-    go : (d v : Bool) → is_ok judged ≡ d → finite p.value ≡ v → Placed (judged_point_of judged p).point
-    go true true h i = rw (h, i) (placed i)
-    go true false h i = rw (h, i) none_placed
-    go false v h i = rw (h, h) none_placed
+    go : (v : Bool) → finite p.value ≡ v → IfOk (result_and (unless_of v Domain) (Ok p)) Placed
+    go true i = placed i
+    go false i = tt
+judged_placed (Err refusal) p placed = tt
 
 module _ (curves : List ℕ) where
   read_placed : (slot : ℕ) (input : Float) → finite (curve_point_of curves slot input).value ≡ true → Placed (curve_point_of curves slot input)
   unfolding curve_point_of
   read_placed slot input told = curve_placed curves slot input (finite_number _ told)
 
-  pub sample_curve_placed : (curve : ℕ) (input : Float) → Placed (sample_curve_call_of curves curve input).point
+  pub sample_curve_placed : (curve : ℕ) (input : Float) → IfOk (sample_curve_call_of curves curve input) Placed
   unfolding sample_curve_call_of
   sample_curve_placed curve input = judged_placed (sample_curve_answer_of curves curve input) (curve_point_of curves curve input) (read_placed curve input)
 
-  pub volume_placed : (volume : ℕ) (value : Float) → Placed (volume_transfer_call_of curves volume value).point
+  pub volume_placed : (volume : ℕ) (value : Float) → IfOk (volume_transfer_call_of curves volume value) Placed
   unfolding volume_transfer_call_of volume_point_of
   volume_placed volume value = judged_placed (volume_answer_of curves volume value) (curve_point_of curves (volume_slot_of volume) value) (read_placed (volume_slot_of volume) value)
 
@@ -45,13 +48,13 @@ module _ (curves : List ℕ) where
   few_placed false slot input told = none_placed
 
   module _ (t : MixingTopology) (sum : Float) where
-    pub mixer_placed : Placed (mixer_transfer_call_of curves t sum).point
+    pub mixer_placed : IfOk (mixer_transfer_call_of curves t sum) Placed
     unfolding mixer_transfer_call_of mixer_point_of
     mixer_placed =
         let slot = mixer_slot_of t.mixer_input_count in
         judged_placed (mixer_answer_of curves t sum) (mixer_point_of curves slot t sum) (few_placed (leb t.mixer_input_count 7) slot (mixer_average_of t sum))
 
-    pub summer_placed : (bundle : List ℕ) → Placed (summer_transfer_call_of bundle curves t sum).point
+    pub summer_placed : (bundle : List ℕ) → IfOk (summer_transfer_call_of bundle curves t sum) Placed
     unfolding summer_transfer_call_of summer_point_of summer_transfer_of
     summer_placed bundle = judged_placed (summer_answer_of bundle curves t sum) (summer_point_of bundle curves (summer_slot_of t) t sum) told_placed
       where

@@ -22,9 +22,10 @@ use Rattle.curves.proofs.Built.{length_curves, sample_accepted}
 use Rattle.curves.proofs.WholeLoads.{whole_load, sample_sized, read_accepted, built_same, built_agrees}
 use Rattle.sample.specs.Sample.{summer_point_of, judge_summer_of}
 use Rattle.sample.proofs.AtRest.{average_rests, summer_zero, summer_rests}
-use Rattle.direct.specs.declared.Valued.{Valued}
-use Rattle.direct.specs.declared.Pointed.{Pointed}
-use Rattle.direct.specs.Calls.{sample_call_of, sample_curve_answer_of, sample_curve_call_of, summer_answer_of, summer_transfer_call_of}
+use Rattle.curves.specs.declared.CurvePoint.{CurvePoint}
+use Rattle.answers.specs.declared.Refusal.{Refusal}
+use Rattle.std.specs.Prelude.{Result, Ok, IsOkAnd}
+use Rattle.direct.specs.Calls.{finite_value_of, finite_point_of, sample_call_of, sample_curve_answer_of, sample_curve_call_of, summer_answer_of, summer_transfer_call_of}
 use Rattle.answers.specs.Answers.{done}
 
 half_finite : finite (reciprocal_of 2) ≡ true
@@ -32,15 +33,12 @@ unfolding reciprocal_of of_bits of_int div
 half_finite = refl
 
 -- Both are answered, and their values are equal by the IEEE test.
-pub record Agree (sampled : Valued) (read : Pointed) : Type 0 where
-  pub sampled_done : sampled.answer ≡ done
-  pub read_done : read.answer ≡ done
-  pub equal : eq sampled.value read.point.value ≡ true
+abbrev pub Agree : Result Float Refusal → Result CurvePoint Refusal → Type 0
+Agree sampled read = IsOkAnd sampled (λ value. IsOkAnd read (λ point. eq value point.value ≡ true))
 
 -- It is answered, with a zero.
-pub record Rests (summed : Pointed) : Type 0 where
-  pub summed_done : summed.answer ≡ done
-  pub zero_out : eq summed.point.value (f32 0) ≡ true
+abbrev pub Rests : Result CurvePoint Refusal → Type 0
+Rests summed = IsOkAnd summed (λ point. eq point.value (f32 0) ≡ true)
 
 module _ (bundle : List ℕ) (a : Accepted bundle) where
   pub bundle_checked : check_of bundle ≡ done
@@ -55,21 +53,21 @@ module _ (bundle : List ℕ) (a : Accepted bundle) where
     number : T (not (is_nan input))
     number = (finite_number input known).real
 
-    pub sampled_value : (g : ℕ) → g ≤ 9 → sample_call_of bundle (whole_load g) input ≡ record { answer = done; value = sample_of bundle (whole_load g) input }
-    unfolding sample_call_of
+    pub sampled_value : (g : ℕ) → g ≤ 9 → sample_call_of bundle (whole_load g) input ≡ Ok (sample_of bundle (whole_load g) input)
+    unfolding sample_call_of finite_value_of
     sampled_value g h =
         let load : finite (whole_load g) ≡ true = sized_finite (of_int_sized binary32 h (lit≤ tt)) in
         rw (bundle_checked, load, known, sample_accepted bundle a (whole_load g) input, sized_finite (sample_sized bundle a g h input number)) refl
 
-    read_point : (g : ℕ) → g ≤ 6 → sample_curve_call_of (build_curves_of bundle) g input ≡ record { answer = done; point = curve_point_of (build_curves_of bundle) g input }
-    unfolding sample_curve_call_of sample_curve_answer_of curve_point_of
+    read_point : (g : ℕ) → g ≤ 6 → sample_curve_call_of (build_curves_of bundle) g input ≡ Ok (curve_point_of (build_curves_of bundle) g input)
+    unfolding sample_curve_call_of sample_curve_answer_of finite_point_of curve_point_of
     read_point g h =
         let value = sized_finite (same_sized (same_sym (built_same bundle a g h input number)) (sample_sized bundle a g (omega arith) input number)) in
         rw (built_long, le-leb g 30 (omega arith), known, read_accepted bundle a g h input, value) refl
 
     pub calls_agree : (g : ℕ) → g ≤ 6 → Agree (sample_call_of bundle (whole_load g) input) (sample_curve_call_of (build_curves_of bundle) g input)
     unfolding curve_point_of
-    calls_agree g h = rw (sampled_value g (omega arith), read_point g h) (record { sampled_done = refl; read_done = refl; equal = built_agrees bundle a g h input number })
+    calls_agree g h = rw (sampled_value g (omega arith), read_point g h) (built_agrees bundle a g h input number)
 
   -- ---- no input routed, in every mode, and a sum of 0 of either sign
 
@@ -85,7 +83,7 @@ module _ (bundle : List ℕ) (a : Accepted bundle) where
     summer_answered = rw (bundle_checked, built_long, half_finite, zero_finite (equal_zero binary32 sum silent), rest_read) refl
 
     pub call_rests : Rests (summer_transfer_call_of bundle (build_curves_of bundle) (topology_of 0 mode) sum)
-    unfolding summer_transfer_call_of summer_point_of
+    unfolding summer_transfer_call_of summer_point_of finite_point_of
     call_rests =
         let out = summer_zero mode sum silent bundle a in
-        rw (summer_answered, zero_finite out) (record { summed_done = refl; zero_out = summer_rests mode sum silent bundle a })
+        rw (summer_answered, zero_finite out) (summer_rests mode sum silent bundle a)

@@ -3,6 +3,9 @@ use Rattle.std.specs.Prelude.{ℕ, ◌%◌, Bool, false, ◌&&◌, cond, List, [
 use Rattle.std.specs.Float.Ieee.Scale.{finite}
 use Rattle.answers.specs.declared.Buffer.TheVariants.{Bundle, Curves}
 use Rattle.answers.specs.declared.Refusal.TheVariants.{InputNotFinite, Domain, Argument}
+use Rattle.std.specs.Prelude.{Result, Ok}
+use Rattle.std.specs.Result.{result_and}
+use Rattle.answers.specs.declared.Refusal.{Refusal}
 use Rattle.answers.specs.Answers.{first_of, unless_of, Answer}
 use Rattle.floats.specs.Arithmetic.{f32}
 use Rattle.integrator.specs.declared.IntegratorState.{IntegratorState}
@@ -24,40 +27,31 @@ use Rattle.curves.specs.Sampling.{load_position_of, sample_places_of, sample_of,
 use Rattle.curves.specs.Building.{judge_length_of}
 use Rattle.transfers.specs.Transfers.{mixer_slot_of, mixer_point_of, judge_mixer_of, volume_slot_of, volume_point_of, judge_volume_of}
 use Rattle.sample.specs.Sample.{summer_slot_of, summer_point_of, judge_summer_of}
-use Rattle.direct.specs.declared.Valued.{Valued}
-use Rattle.direct.specs.declared.Pointed.{Pointed}
-use Rattle.direct.specs.declared.Substepped.{Substepped}
-use Rattle.direct.specs.declared.Routed.{Routed}
-use Rattle.direct.specs.declared.Positioned.{Positioned}
-use Rattle.direct.specs.declared.Binned.{Binned}
 
 -- ---- what they share
 
--- A value where nothing is refused, else 0. The last refusal is 6, for a value that is not finite.
-abbrev pub judged_value_of : Answer → Float → Valued
-judged_value_of judged value =
-    let answer = first_of judged (unless_of (finite value) Domain) in
-    record { answer = answer; value = cond (is_ok answer) value (f32 0) }
+-- A value where nothing is refused. The last refusal is 6, for a value that is not finite.
+unfoldable pub finite_value_of : Float → Result Float Refusal
+finite_value_of value = result_and (unless_of (finite value) Domain) (Ok value)
 
--- The same for a point, by its value. A refused call stands on no curve.
-abbrev pub judged_point_of : Answer → CurvePoint → Pointed
-judged_point_of judged point =
-    let answer = first_of judged (unless_of (finite point.value) Domain) in
-    record { answer = answer; point = cond (is_ok answer) point no_point }
+abbrev pub judged_value_of : Answer → Float → Result Float Refusal
+judged_value_of judged value = result_and judged (finite_value_of value)
+
+-- The same for a point, by its value.
+unfoldable pub finite_point_of : CurvePoint → Result CurvePoint Refusal
+finite_point_of point = result_and (unless_of (finite point.value) Domain) (Ok point)
+
+abbrev pub judged_point_of : Answer → CurvePoint → Result CurvePoint Refusal
+judged_point_of judged point = result_and judged (finite_point_of point)
 
 -- ---- the analogue surface and its curves
 
 -- `load_position`: 10
-abbrev pub load_or : Answer → AnalogueLoadPosition → AnalogueLoadPosition
-load_or answer position = cond (is_ok answer) position (record { lower_base = 0; upper_base = 0; fraction = f32 0 })
-
-unfoldable pub load_position_call_of : Float → Positioned
-load_position_call_of conductance =
-    let answer = unless_of (finite conductance) Argument in
-    record { answer = answer; position = load_or answer (load_position_of conductance) }
+unfoldable pub load_position_call_of : Float → Result AnalogueLoadPosition Refusal
+load_position_call_of conductance = result_and (unless_of (finite conductance) Argument) (Ok (load_position_of conductance))
 
 -- `sample`: 1, 2, 10, 3, 6
-unfoldable pub sample_call_of : List ℕ → Float → Float → Valued
+unfoldable pub sample_call_of : List ℕ → Float → Float → Result Float Refusal
 sample_call_of bundle conductance input =
     judged_value_of
     (first_of (check_of bundle)
@@ -72,7 +66,7 @@ sample_curve_answer_of curves curve input =
     (first_of (unless_of (leb curve 30 && finite input) Argument)
     (judge_places_of Curves curves (sample_curve_places_of curve input)))
 
-unfoldable pub sample_curve_call_of : List ℕ → ℕ → Float → Pointed
+unfoldable pub sample_curve_call_of : List ℕ → ℕ → Float → Result CurvePoint Refusal
 sample_curve_call_of curves curve input = judged_point_of (sample_curve_answer_of curves curve input) (curve_point_of curves curve input)
 
 -- ---- the transfers
@@ -86,7 +80,7 @@ summer_answer_of bundle curves t sum =
     (first_of (unless_of (finite sum) InputNotFinite)
     (judge_summer_of bundle curves (summer_slot_of t) t sum))))
 
-unfoldable pub summer_transfer_call_of : List ℕ → List ℕ → MixingTopology → Float → Pointed
+unfoldable pub summer_transfer_call_of : List ℕ → List ℕ → MixingTopology → Float → Result CurvePoint Refusal
 summer_transfer_call_of bundle curves t sum = judged_point_of (summer_answer_of bundle curves t sum) (summer_point_of bundle curves (summer_slot_of t) t sum)
 
 -- `mixer_transfer`: 4, 10, 3, 6. A count above 7 is a 10 of `judge_mixer_of`.
@@ -96,7 +90,7 @@ mixer_answer_of curves t sum =
     (first_of (unless_of (finite t.mixer_input_reciprocal && finite sum) Argument)
     (judge_mixer_of curves (mixer_slot_of t.mixer_input_count) t sum))
 
-unfoldable pub mixer_transfer_call_of : List ℕ → MixingTopology → Float → Pointed
+unfoldable pub mixer_transfer_call_of : List ℕ → MixingTopology → Float → Result CurvePoint Refusal
 mixer_transfer_call_of curves t sum = judged_point_of (mixer_answer_of curves t sum) (mixer_point_of curves (mixer_slot_of t.mixer_input_count) t sum)
 
 -- `volume_transfer`: 4, 10, 3, 6
@@ -106,13 +100,13 @@ volume_answer_of curves volume value =
     (first_of (unless_of (leb volume 15 && finite value) Argument)
     (judge_volume_of curves (volume_slot_of volume) value))
 
-unfoldable pub volume_transfer_call_of : List ℕ → ℕ → Float → Pointed
+unfoldable pub volume_transfer_call_of : List ℕ → ℕ → Float → Result CurvePoint Refusal
 volume_transfer_call_of curves volume value = judged_point_of (volume_answer_of curves volume value) (volume_point_of curves (volume_slot_of volume) value)
 
 -- ---- the integrator
 
 -- `IntegratorState::saturate`: 10, 6
-unfoldable pub saturate_call_of : Float → Float → Valued
+unfoldable pub saturate_call_of : Float → Float → Result Float Refusal
 saturate_call_of value drive = judged_value_of (unless_of (finite value && finite drive) Argument) (saturate_of value drive)
 
 abbrev pub finite_state_of : IntegratorState → Bool
@@ -124,14 +118,6 @@ finite_outputs_of o = finite o.high_pass && finite o.band_pass && finite o.low_p
 abbrev pub finite_coefficients_of : Coefficients → Bool
 finite_coefficients_of k = finite k.damping && finite k.feedback_drive && finite k.a1 && finite k.a2 && finite k.a3
 
-abbrev pub advanced_or : Answer → Advanced → Advanced
-advanced_or answer advanced =
-    cond (is_ok answer) advanced
-    (record {
-      outputs = record { high_pass = f32 0; band_pass = f32 0; low_pass = f32 0 };
-      state = record { band_state = f32 0; low_state = f32 0; filter_source_energy = f32 0 };
-    })
-
 -- `IntegratorState::advance`: 10, 6
 unfoldable pub advance_answer_of : IntegratorState → Float → Coefficients → Answer
 advance_answer_of s driven_input k =
@@ -139,58 +125,31 @@ advance_answer_of s driven_input k =
     first_of (unless_of (finite_state_of s && finite driven_input && finite_coefficients_of k) Argument)
     (unless_of (finite_state_of next.state && finite_outputs_of next.outputs) Domain)
 
-unfoldable pub advance_call_of : IntegratorState → Float → Coefficients → Substepped
-advance_call_of s driven_input k =
-    let answer = advance_answer_of s driven_input k in
-    record { answer = answer; advanced = advanced_or answer (advance_of s driven_input k) }
+unfoldable pub advance_call_of : IntegratorState → Float → Coefficients → Result Advanced Refusal
+advance_call_of s driven_input k = result_and (advance_answer_of s driven_input k) (Ok (advance_of s driven_input k))
 
 -- ---- the topology
 
-abbrev pub topology_or : Answer → MixingTopology → MixingTopology
-topology_or answer topology =
-    let none = false ∷ false ∷ false ∷ false ∷ [] in
-    cond (is_ok answer) topology
-    (record {
-      filter_membership = none;
-      bypass_membership = none;
-      filter_input_count = 0;
-      bypass_input_count = 0;
-      filter_output_count = 0;
-      mixer_input_count = 0;
-      filter_input_reciprocal = f32 0;
-      summer_input_reciprocal = f32 0;
-      mixer_input_reciprocal = f32 0;
-      filter_internal_mask = 0;
-      bypass_internal_mask = 0;
-    })
-
 -- `MixingTopology::update`: 10
-unfoldable pub mixing_topology_call_of : ℕ → ℕ → Routed
-mixing_topology_call_of routing mode =
-    let answer = unless_of (leb routing 15 && leb mode 15) Argument in
-    record { answer = answer; topology = topology_or answer (topology_of routing mode) }
+unfoldable pub mixing_topology_call_of : ℕ → ℕ → Result MixingTopology Refusal
+mixing_topology_call_of routing mode = result_and (unless_of (leb routing 15 && leb mode 15) Argument) (Ok (topology_of routing mode))
 
 -- ---- the response
 
 -- `normalise_voltage`: 10
-unfoldable pub normalise_voltage_call_of : Float → Valued
+unfoldable pub normalise_voltage_call_of : Float → Result Float Refusal
 normalise_voltage_call_of voltage = judged_value_of (unless_of (finite voltage) Argument) (normalise_voltage_of voltage)
 
-abbrev pub bins_or : Answer → TablePosition → TablePosition
-bins_or answer position = cond (is_ok answer) position (record { lower = 0; upper = 0; fraction = f32 0 })
-
 -- `operating_position`: 10
-unfoldable pub operating_position_call_of : Float → Float → Float → Binned
-operating_position_call_of input band low =
-    let answer = unless_of (finite input && finite band && finite low) Argument in
-    record { answer = answer; position = bins_or answer (operating_position_of input band low) }
+unfoldable pub operating_position_call_of : Float → Float → Float → Result TablePosition Refusal
+operating_position_call_of input band low = result_and (unless_of (finite input && finite band && finite low) Argument) (Ok (operating_position_of input band low))
 
 -- `volume_dac_conductance_code`: 10
-unfoldable pub volume_dac_conductance_code_call_of : ℕ → Valued
+unfoldable pub volume_dac_conductance_code_call_of : ℕ → Result Float Refusal
 volume_dac_conductance_code_call_of volume = judged_value_of (unless_of (leb volume 15) Argument) (volume_dac_conductance_code_of volume)
 
 -- `filter_output_common_mode`: 10
-unfoldable pub filter_output_common_mode_call_of : ℕ → ℕ → Valued
+unfoldable pub filter_output_common_mode_call_of : ℕ → ℕ → Result Float Refusal
 filter_output_common_mode_call_of mode cutoff = judged_value_of (unless_of (leb mode 15 && leb cutoff 2047) Argument) (filter_output_common_mode_of mode cutoff)
 
 -- `filter_mode_output_gain`: 1, 2, 10, 3, 6. In mode 4 it reads the bundle's `highpass_loading` at the cutoff.
@@ -203,6 +162,6 @@ filter_mode_output_gain_answer_of bundle mode resonance cutoff =
     (first_of (unless_of (leb mode 15 && leb resonance 15 && leb cutoff 2047) Argument)
     (judge_loading_of bundle mode cutoff))
 
-unfoldable pub filter_mode_output_gain_call_of : List ℕ → ℕ → ℕ → ℕ → Valued
+unfoldable pub filter_mode_output_gain_call_of : List ℕ → ℕ → ℕ → ℕ → Result Float Refusal
 filter_mode_output_gain_call_of bundle mode resonance cutoff =
     judged_value_of (filter_mode_output_gain_answer_of bundle mode resonance cutoff) (filter_mode_output_gain_of mode resonance cutoff (entry_at bundle (highpass_loading_place cutoff)))
