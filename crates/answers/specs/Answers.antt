@@ -45,6 +45,11 @@ report_of (Err refusal) = reported_of refusal
 abbrev pub number_of : Answer → ℕ
 number_of a = (report_of a).number
 
+-- The answer of a call that hands something out.
+abbrev pub answer_of : {T : Type 0} → Result T Refusal → Answer
+answer_of (Ok _) = done
+answer_of (Err refusal) = Err refusal
+
 -- The first of two if it refuses, else the second.
 abbrev pub first_of : Answer → Answer → Answer
 first_of a b = result_and a b

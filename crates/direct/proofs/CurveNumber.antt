@@ -8,7 +8,9 @@ use Rattle.std.specs.Prelude.{Ok, Err}
 use Rattle.answers.specs.declared.Refusal.TheVariants.{Argument}
 use Rattle.answers.specs.Answers.{Answer, first_of}
 use Rattle.curves.specs.declared.CurvePoint.{CurvePoint}
-use Rattle.curves.specs.Sampling.{curve_point_of, no_point}
+use Rattle.answers.specs.declared.Buffer.TheVariants.{Curves}
+use Rattle.bundle.specs.Opening.{judge_places_of}
+use Rattle.curves.specs.Sampling.{curve_point_of, no_point, sample_curve_places_of}
 use Rattle.curves.specs.Building.{judge_length_of}
 use Rattle.direct.specs.Calls.{judged_point_of, sample_curve_answer_of, sample_curve_call_of}
 
@@ -19,4 +21,4 @@ none_handed (Err refusal) later p q = refl
 
 pub curve_above : (curves : List ℕ) (curve : ℕ) (input : Float) → 30 < curve → judged_point_of (first_of (judge_length_of curves) (Err Argument)) no_point ≡ sample_curve_call_of curves curve input
 unfolding sample_curve_call_of sample_curve_answer_of
-curve_above curves curve input above = rw (lt-leb curve 30 above) (none_handed (judge_length_of curves) _ no_point (curve_point_of curves curve input))
+curve_above curves curve input above = rw (lt-leb curve 30 above) (none_handed (judge_length_of curves) (judge_places_of Curves curves (sample_curve_places_of curve input)) no_point (curve_point_of curves curve input))

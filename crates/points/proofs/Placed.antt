@@ -10,7 +10,7 @@ use lib.Ieee.{Float, binary32, of_bits, of_int, lt, sub, mul, div}
 use lib.Ieee.Positive.{positive}
 use lib.Ieee.Scale.{finite}
 use Rattle.answers.specs.declared.Refusal.TheVariants.{Argument, InputNotFinite}
-use Rattle.answers.specs.Answers.{first_of, unless_of, Answer}
+use Rattle.answers.specs.Answers.{first_of, unless_of, Answer, done}
 use Rattle.answers.proofs.Laws.{done_is, first_done, unless_done}
 use Rattle.floats.specs.Arithmetic.{◌⊕◌, ◌⊗◌, f32}
 use Rattle.floats.proofs.Laws.{both}
@@ -24,27 +24,26 @@ use Rattle.curves.specs.Sampling.{no_point}
 use Rattle.curves.specs.Building.{judge_length_of}
 use Rattle.curves.proofs.Point.{Placed, none_placed, number_placed}
 use Rattle.sample.specs.Sample.{summer_slot_of, average_of, summer_point_of, is_idle_of, judge_input_of}
-use Rattle.direct.specs.declared.Pointed.{Pointed}
 use Rattle.direct.proofs.Placed.{summer_placed, mixer_placed}
 use Rattle.filter.specs.Lent.{Lent, judge_lent_of}
 use Rattle.filter.specs.Core.{fresh_topology_of}
-use Rattle.points.specs.Points.{refused_of, summer_call_of, mixer_call_of, state_point_of, sample_refusal_of, pointed_of, sample_point_call_of}
-use Rattle.std.specs.Prelude.{Err, is_ok, Option, Some, None}
+use Rattle.points.specs.Points.{summer_call_of, mixer_call_of, state_point_of, sample_refusal_of, pointed_of, sample_point_call_of}
+use Rattle.std.specs.Prelude.{Ok, Err, Result, IfOk, Option, Some, None}
+use Rattle.std.specs.Result.{result_and}
+use Rattle.answers.specs.declared.Refusal.{Refusal}
+use Rattle.curves.specs.declared.CurvePoint.{CurvePoint}
 
 -- ---- by nibbles
 
-guarded_placed : (judged : Answer) (r : Pointed) → Placed r.point → Placed (cond (is_ok judged) r (refused_of judged)).point
-guarded_placed judged r placed = go (is_ok judged)
-  where
-    go : (d : Bool) → Placed (cond d r (refused_of judged)).point
-    go true = placed
-    go false = none_placed
+guarded_placed : (judged : Answer) (r : Result CurvePoint Refusal) → IfOk r Placed → IfOk (result_and judged r) Placed
+guarded_placed (Ok _) r placed = placed
+guarded_placed (Err refusal) r placed = tt
 
-pub summer_told : (l : Lent) (routing : ℕ) (sum : Float) → Placed (summer_call_of l routing sum).point
+pub summer_told : (l : Lent) (routing : ℕ) (sum : Float) → IfOk (summer_call_of l routing sum) Placed
 unfolding summer_call_of
 summer_told l routing sum = guarded_placed (first_of (judge_lent_of l) (unless_of (leb routing 15) Argument)) _ (summer_placed l.curves (topology_of routing 0) sum l.bundle)
 
-pub mixer_told : (curves : List ℕ) (routing mode : ℕ) (sum : Float) → Placed (mixer_call_of curves routing mode sum).point
+pub mixer_told : (curves : List ℕ) (routing mode : ℕ) (sum : Float) → IfOk (mixer_call_of curves routing mode sum) Placed
 unfolding mixer_call_of
 mixer_told curves routing mode sum =
     guarded_placed (first_of (judge_length_of curves) (unless_of (leb routing 15 && leb mode 15) Argument)) _ (mixer_placed curves (topology_of routing mode) sum)
@@ -80,20 +79,24 @@ module _ (s : State) (sum : Float) (known : finite sum ≡ true) where
       go true = none_placed
       go false = number_placed l.curves (summer_slot_of (fresh_topology_of s)) (average_of (fresh_topology_of s) sum) average_number.real
 
-pub sample_told : (l : Lent) (block : List ℕ) (sum energy : Float) → Placed (sample_point_call_of l block sum energy).point
+pub sample_told : (l : Lent) (block : List ℕ) (sum energy : Float) → IfOk (sample_point_call_of l block sum energy) Placed
 unfolding sample_point_call_of sample_refusal_of
 sample_told l block sum energy = go (decode_of block)
   where
-    known : (s : State) → is_ok (first_of (judge_lent_of l) (sample_refusal_of l s sum energy)) ≡ true → finite sum ≡ true
-    known s done =
-        let asked = (first_done (judge_lent_of l) (sample_refusal_of l s sum energy) (done_is _ done)).1 in
+    known : (s : State) → first_of (judge_lent_of l) (sample_refusal_of l s sum energy) ≡ done → finite sum ≡ true
+    known s h =
+        let asked = (first_done (judge_lent_of l) (sample_refusal_of l s sum energy) h).1 in
         let input = (first_done (judge_input_of sum energy) _ asked).0 in
         (both (finite sum) (finite energy) (unless_done (finite sum && finite energy) InputNotFinite input)).0
 
-    settled : (s : State) (d : Bool) → is_ok (first_of (judge_lent_of l) (sample_refusal_of l s sum energy)) ≡ d → Placed (cond d (state_point_of l s sum) no_point)
-    settled s true h = state_placed s sum (known s h) l
-    settled s false h = none_placed
+    settled : (s : State) (judged : Answer) → first_of (judge_lent_of l) (sample_refusal_of l s sum energy) ≡ judged → IfOk (result_and judged (Ok (state_point_of l s sum))) Placed
+    settled s (Ok _) h = state_placed s sum (known s h) l
+    settled s (Err refusal) h = tt
 
-    go : (d : Option State) → Placed (pointed_of l d sum energy).point
-    go None = none_placed
-    go (Some s) = settled s (is_ok (first_of (judge_lent_of l) (sample_refusal_of l s sum energy))) refl
+    none : (judged : Answer) → IfOk {T = CurvePoint} (result_and judged (Err Argument)) Placed
+    none (Ok _) = tt
+    none (Err refusal) = tt
+
+    go : (d : Option State) → IfOk (pointed_of l d sum energy) Placed
+    go None = none (judge_lent_of l)
+    go (Some s) = settled s (first_of (judge_lent_of l) (sample_refusal_of l s sum energy)) refl

@@ -13,29 +13,25 @@ use Rattle.curves.specs.Sampling.{no_point}
 use Rattle.curves.specs.Building.{judge_length_of}
 use Rattle.controls.specs.Judging.{judge_controls_of}
 use Rattle.sample.specs.Sample.{summer_slot_of, summer_point_of, is_idle_of, judge_input_of}
-use Rattle.direct.specs.declared.Pointed.{Pointed}
+use Rattle.std.specs.Prelude.{Result, Ok, Err}
+use Rattle.std.specs.Result.{result_and}
+use Rattle.answers.specs.declared.Refusal.{Refusal}
 use Rattle.direct.specs.Calls.{summer_transfer_call_of, mixer_transfer_call_of}
 use Rattle.filter.specs.Lent.{Lent, judge_lent_of}
 use Rattle.filter.specs.Core.{fresh_topology_of}
 use Rattle.filter.specs.Plain.{plain_sample}
 
--- A refused call stands on no curve.
-abbrev pub refused_of : Answer → Pointed
-refused_of answer = record { answer = answer; point = no_point }
-
 -- ---- by nibbles, which are at most 15 (10)
 
 -- the summer: 1, 2, 4, 10, 5, 3, 6. No mode has a part in what it is fed.
-unfoldable pub summer_call_of : Lent → ℕ → Float → Pointed
+unfoldable pub summer_call_of : Lent → ℕ → Float → Result CurvePoint Refusal
 summer_call_of l routing sum =
-    let judged = first_of (judge_lent_of l) (unless_of (leb routing 15) Argument) in
-    cond (is_ok judged) (summer_transfer_call_of l.bundle l.curves (topology_of routing 0) sum) (refused_of judged)
+    result_and (first_of (judge_lent_of l) (unless_of (leb routing 15) Argument)) (summer_transfer_call_of l.bundle l.curves (topology_of routing 0) sum)
 
 -- the mixer: 4, 10, 3, 6
-unfoldable pub mixer_call_of : List ℕ → ℕ → ℕ → Float → Pointed
+unfoldable pub mixer_call_of : List ℕ → ℕ → ℕ → Float → Result CurvePoint Refusal
 mixer_call_of curves routing mode sum =
-    let judged = first_of (judge_length_of curves) (unless_of (leb routing 15 && leb mode 15) Argument) in
-    cond (is_ok judged) (mixer_transfer_call_of curves (topology_of routing mode) sum) (refused_of judged)
+    result_and (first_of (judge_length_of curves) (unless_of (leb routing 15 && leb mode 15) Argument)) (mixer_transfer_call_of curves (topology_of routing mode) sum)
 
 -- ---- of a sample
 
@@ -49,14 +45,12 @@ state_point_of l s sum =
 unfoldable pub sample_refusal_of : Lent → State → Float → Float → Answer
 sample_refusal_of l s sum energy = first_of (judge_input_of sum energy) (first_of (judge_controls_of l.bundle s) (plain_sample l s sum energy).answer)
 
-abbrev pub pointed_of : Lent → Option State → Float → Float → Pointed
-pointed_of l None sum energy = refused_of (first_of (judge_lent_of l) Argument)
-pointed_of l (Some s) sum energy =
-    let answer = first_of (judge_lent_of l) (sample_refusal_of l s sum energy) in
-    record { answer = answer; point = cond (is_ok answer) (state_point_of l s sum) no_point }
+abbrev pub pointed_of : Lent → Option State → Float → Float → Result CurvePoint Refusal
+pointed_of l None sum energy = result_and (judge_lent_of l) (Err Argument)
+pointed_of l (Some s) sum energy = result_and (first_of (judge_lent_of l) (sample_refusal_of l s sum energy)) (Ok (state_point_of l s sum))
 
 -- `sid_filter_sample_point`: 1, 2, 4, 10 of the block, 5, 3, 6
-unfoldable pub sample_point_call_of : Lent → List ℕ → Float → Float → Pointed
+unfoldable pub sample_point_call_of : Lent → List ℕ → Float → Float → Result CurvePoint Refusal
 sample_point_call_of l block sum energy = pointed_of l (decode_of block) sum energy
 
 -- A script of one sample: a count of 1 and the offset 8; kind 4, with 0 for what it does not use, and the two floats.

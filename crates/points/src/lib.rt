@@ -5,48 +5,37 @@ ghost use Rattle.std.specs.Prelude.{◌≡◌};
 ghost use Rattle.filter.specs.Lent.{lent_of};
 ghost use Rattle.points.specs.Points as P;
 
-use answers::Answer;
+use answers::Refusal;
 use control::State;
 use curves::CurvePoint;
-use direct::Pointed;
 use mixing::MixingTopology;
-
-// A refused call stands on no curve.
-fn refused(answer: Answer) -> Pointed
-    ensures { result ≡ P.refused_of answer }
-{
-    Pointed {
-        answer,
-        point: curves::no_point(),
-    }
-}
 
 // ---- by nibbles
 
 // What the summer makes of the sum of the inputs that a routing nibble gives it. Refuses 1, 2, 4, 10, 5, 3, 6.
-pub fn summer(bundle: &[u8], curves: &[u8], routing: u8, input_sum: f32) -> Pointed
+#[tactic(auto, unfolding(crate::specs::Points::summer_call_of))]
+pub fn summer(
+    bundle: &[u8],
+    curves: &[u8],
+    routing: u8,
+    input_sum: f32,
+) -> Result<CurvePoint, Refusal>
     ensures { result ≡ P.summer_call_of (lent_of bundle.now curves.now) routing input_sum }
 {
-    let known = answers::unless(routing <= 15, Refusal::Argument);
-    let judged = answers::first(filter::judge_lent(bundle, curves), known);
-    if judged.is_ok() {
-        let topology = MixingTopology::update(routing, 0);
-        return direct::summer_transfer(bundle, curves, topology, input_sum);
-    }
-    refused(judged)
+    filter::judge_lent(bundle, curves)?;
+    answers::unless(routing <= 15, Refusal::Argument)?;
+    let topology = MixingTopology::update(routing, 0);
+    direct::summer_transfer(bundle, curves, topology, input_sum)
 }
 
 // What the mixer makes of the sum of the inputs that a routing and a mode nibble give it. Refuses 4, 10, 3, 6.
-pub fn mixer(curves: &[u8], routing: u8, mode: u8, input_sum: f32) -> Pointed
+#[tactic(auto, unfolding(crate::specs::Points::mixer_call_of))]
+pub fn mixer(curves: &[u8], routing: u8, mode: u8, input_sum: f32) -> Result<CurvePoint, Refusal>
     ensures { result ≡ P.mixer_call_of curves.now routing mode input_sum }
 {
-    let known = answers::unless((routing <= 15) & (mode <= 15), Refusal::Argument);
-    let judged = answers::first(curves::judge_length(curves), known);
-    if judged.is_ok() {
-        let topology = MixingTopology::update(routing, mode);
-        return direct::mixer_transfer(curves, topology, input_sum);
-    }
-    refused(judged)
+    curves::judge_length(curves)?;
+    answers::unless((routing <= 15) & (mode <= 15), Refusal::Argument)?;
+    direct::mixer_transfer(curves, MixingTopology::update(routing, mode), input_sum)
 }
 
 // ---- of a sample
@@ -56,8 +45,7 @@ pub fn state_point(bundle: &[u8], curves: &[u8], state: State, input_sum: f32) -
     ensures { result ≡ P.state_point_of (lent_of bundle.now curves.now) state input_sum }
 {
     let topology = filter::fresh_topology(state);
-    let integrator = state.integrator;
-    if sample::is_idle(topology.filter_input_count, integrator) {
+    if sample::is_idle(topology.filter_input_count, state.integrator) {
         return curves::no_point();
     }
     let slot = sample::summer_slot(topology);

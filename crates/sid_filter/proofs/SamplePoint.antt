@@ -8,8 +8,8 @@ use lib.ListN.{length, replicate}
 use lib.Ieee.{Float, binary32, of_bits, fits, le}
 use lib.Ieee.Scale.{finite}
 use borrow.Author.Tests.{eq-eqb}
-use Rattle.answers.specs.declared.Refusal.TheVariants.{BundleLength, Header, CurvesLength, InputNotFinite, Script, Argument}
-use Rattle.answers.specs.Answers.{number_of, first_of, unless_of, Answer, done}
+use Rattle.answers.specs.declared.Refusal.TheVariants.{BundleLength, Header, Entry, CurvesLength, InputNotFinite, Domain, Script, OutputLength, Argument, Sources, Decays}
+use Rattle.answers.specs.Answers.{number_of, first_of, unless_of, answer_of, Answer, done}
 use Rattle.answers.proofs.Laws.{done_is, first_assoc, first_of_done}
 use Rattle.wire.specs.Wire.{number_at}
 use Rattle.bundle.specs.Layout.{bundle_length, header_length}
@@ -28,13 +28,11 @@ use Rattle.script.specs.Script.{events_of, samples_of, header_ok, well_formed}
 use Rattle.filter.specs.Lent.{Lent, lent_all, judge_tables_of, judge_lent_of}
 use Rattle.filter.specs.Plain.{plain_sample, plain_step}
 use Rattle.run.specs.Run.{Run, play_of, played_of, is_valid, judge_script_of, judge_run_of, run_of}
-use Rattle.direct.proofs.CurveNumber.{then_argument}
 use Rattle.points.specs.Points.{state_point_of, pointed_of, sample_refusal_of, sample_point_call_of, sample_script_of}
 use Rattle.points.proofs.Laws.{script_formed, script_events}
-use Rattle.sid_filter.specs.declared.RunAnswer.{RunAnswer}
-use Rattle.sid_filter.specs.declared.PointAnswer.{PointAnswer}
-use Rattle.sid_filter.specs.Calls.{run_answer_of, ran_answer_of, uncounted_of, point_answer_of}
-use Rattle.std.specs.Prelude.{Err, is_ok, Option, Some, None}
+use Rattle.std.specs.Prelude.{Ok, Err, Result, is_ok, Option, Some, None}
+use Rattle.std.specs.Result.{result_and}
+use Rattle.answers.specs.declared.Refusal.{Refusal}
 
 -- What is lent is not refused with 7.
 lent_other : (l : Lent) → eqb (number_of (judge_lent_of l)) 7 ≡ false
@@ -48,26 +46,46 @@ lent_other l =
     go true true false place = refl
     go true true true place = refl
 
+-- the answer of a call that refuses or hands out a point
+answered : (judged : Answer) (r : Result CurvePoint Refusal) → answer_of (result_and judged r) ≡ first_of judged (answer_of r)
+answered (Ok _) r = refl
+answered (Err refusal) r = refl
+
+-- an answer of another number than 7
+other_number : (a : Answer) → (a ≡ Err Script → ⊥) → eqb (number_of a) 7 ≡ false
+other_number (Ok _) h = refl
+other_number (Err BundleLength) h = refl
+other_number (Err (Header place)) h = refl
+other_number (Err (Entry buffer place)) h = refl
+other_number (Err CurvesLength) h = refl
+other_number (Err InputNotFinite) h = refl
+other_number (Err Domain) h = refl
+other_number (Err Script) h = absurd (h refl)
+other_number (Err OutputLength) h = refl
+other_number (Err Argument) h = refl
+other_number (Err Sources) h = refl
+other_number (Err Decays) h = refl
+
 -- ---- a run's answer
 
 run_answered : (l : Lent) (block script output : List ℕ)
     → (run_of l block script output).answer ≡ first_of (judge_run_of l block script (length output)) (played_of l (fields_of block) (events_of script)).answer
 unfolding run_of
-run_answered l block script output = go (is_ok (judge_run_of l block script (length output))) _ _
+run_answered l block script output = go (judge_run_of l block script (length output)) _
   where
-    go : (d : Bool) (x y : Run) → (cond d x y).answer ≡ cond d x.answer y.answer
-    go true x y = refl
-    go false x y = refl
+    go : (judged : Answer) (x : Run) → (cond (is_ok judged) x (record { answer = judged; events = 0; samples = 0; state = block; output = output })).answer ≡ first_of judged x.answer
+    go (Ok _) x = refl
+    go (Err refusal) x = refl
 
 played_one : (l : Lent) (s : State) (e : Event) → (played_of l s (e ∷ [])).answer ≡ first_of (judge_controls_of l.bundle s) (plain_step l s e).answer
 unfolding played_of play_of
-played_one l s e = go (is_ok (judge_controls_of l.bundle s)) (is_ok (plain_step l s e).answer) refl refl
+played_one l s e = go (judge_controls_of l.bundle s) (plain_step l s e).answer refl refl
   where
-    go : (c d : Bool) → is_ok (judge_controls_of l.bundle s) ≡ c → is_ok (plain_step l s e).answer ≡ d
+    go : (c d : Answer) → judge_controls_of l.bundle s ≡ c → (plain_step l s e).answer ≡ d
         → (played_of l s (e ∷ [])).answer ≡ first_of (judge_controls_of l.bundle s) (plain_step l s e).answer
-    go true true h i = rw (h, i) (sym (done_is _ i))
-    go true false h i = rw (h, i) refl
-    go false d h i = rw h refl
+    go (Ok _) (Ok _) h i = rw (h, i) refl
+    go (Ok _) (Err refusal) h i = rw (h, i) refl
+    go (Err refusal) d h i = rw h refl
 
 -- ---- both runs, which are lent six zeros for decays
 
@@ -88,9 +106,9 @@ module _ (l : Lent) (block : List ℕ) (sum energy : Float) where
   output = replicate 16 0
 
   -- a block of another length
-  pub other_length : eqb (length block) 68 ≡ false → first_of (judge_lent_of l) Argument ≡ (sample_point_call_of l block sum energy).answer
+  pub other_length : eqb (length block) 68 ≡ false → first_of (judge_lent_of l) (Err Argument) ≡ answer_of (sample_point_call_of l block sum energy)
   unfolding sample_point_call_of decode_of
-  other_length h = rw h refl
+  other_length h = rw h (sym (answered (judge_lent_of l) _))
 
   abbrev pub one_run : Answer
   one_run = (run_of (zero_decays l) block (sample_script_of sum energy) output).answer
@@ -103,7 +121,7 @@ module _ (l : Lent) (block : List ℕ) (sum energy : Float) where
   unfolding judge_script_of samples_of
   one_judged f g = rw (script_formed sum energy, script_events sum energy f g) refl
 
-  pub one_run_lem : T (fits binary32 sum) → T (fits binary32 energy) → (finite sum && finite energy) ≡ true → one_run ≡ (sample_point_call_of l block sum energy).answer
+  pub one_run_lem : T (fits binary32 sum) → T (fits binary32 energy) → (finite sum && finite energy) ≡ true → one_run ≡ answer_of (sample_point_call_of l block sum energy)
   unfolding sample_point_call_of sample_refusal_of judge_run_of
   one_run_lem f g known =
       run_answered (zero_decays l) block (sample_script_of sum energy) output
@@ -111,64 +129,60 @@ module _ (l : Lent) (block : List ℕ) (sum energy : Float) where
     where
       go : (d : Option State) → decode_of block ≡ d
           → first_of (first_of (judge_lent_of l) (first_of (unless_of (is_valid d) Argument) done)) (played_of (zero_decays l) (fields_of block) (Sample sum energy ∷ [])).answer
-          ≡ (pointed_of l d sum energy).answer
-      go None h = first_assoc (judge_lent_of l) Argument _
+          ≡ answer_of (pointed_of l d sum energy)
+      go None h = first_assoc (judge_lent_of l) (Err Argument) _ ∙ sym (answered (judge_lent_of l) (Err Argument))
       go (Some s) h =
-          rw ((decoded block s h).fields, played_one (zero_decays l) s (Sample sum energy), sample_alike l s sum energy, known, first_of_done (judge_lent_of l)) refl
+          rw ((decoded block s h).fields, played_one (zero_decays l) s (Sample sum energy), sample_alike l s sum energy, known, first_of_done (judge_lent_of l))
+          (sym (answered (first_of (judge_lent_of l) (sample_refusal_of l s sum energy)) (Ok (state_point_of l s sum)) ∙ first_of_done _))
 
   -- no script is not readable
-  none_judged : judge_script_of [] (length output) ≡ Script
+  none_judged : judge_script_of [] (length output) ≡ Err Script
   unfolding judge_script_of well_formed header_ok number_at
   none_judged = refl
 
-  pub no_run_lem : (finite sum && finite energy) ≡ false → cond (eqb (number_of no_run) 7) InputNotFinite no_run ≡ (sample_point_call_of l block sum energy).answer
+  pub no_run_lem : (finite sum && finite energy) ≡ false → cond (eqb (number_of no_run) 7) (Err InputNotFinite) no_run ≡ answer_of (sample_point_call_of l block sum energy)
   unfolding sample_point_call_of sample_refusal_of judge_run_of
   no_run_lem unknown =
       rw (run_answered (zero_decays l) block [] output, zeros_judged, none_judged)
-      (go (decode_of block) (is_ok (judge_lent_of l)) refl (played_of (zero_decays l) (fields_of block) (events_of [])).answer)
+      (go (decode_of block) (judge_lent_of l) refl (played_of (zero_decays l) (fields_of block) (events_of [])).answer)
     where
-      go : (d : Option State) (b : Bool) → is_ok (judge_lent_of l) ≡ b → (played : Answer)
-          → let judged = first_of (first_of (judge_lent_of l) (first_of (unless_of (is_valid d) Argument) Script)) played in
-          cond (eqb (number_of judged) 7) InputNotFinite judged ≡ (pointed_of l d sum energy).answer
-      go None true h played = rw h refl
-      go None false h played = rw (h, h, lent_other l) refl
-      go (Some s) true h played = rw (h, unknown) refl
-      go (Some s) false h played = rw (h, h, lent_other l) refl
+      go : (d : Option State) (a : Answer) → judge_lent_of l ≡ a → (played : Answer)
+          → let judged = first_of (first_of (judge_lent_of l) (first_of (unless_of (is_valid d) Argument) (Err Script))) played in
+          cond (eqb (number_of judged) 7) (Err InputNotFinite) judged ≡ answer_of (pointed_of l d sum energy)
+      go None (Ok _) h played = rw h refl
+      go None (Err refusal) h played = rw (h, rw h at (lent_other l)) refl
+      go (Some s) (Ok _) h played = rw (h, unknown) refl
+      go (Some s) (Err refusal) h played = rw (h, rw h at (lent_other l)) refl
 
-  -- ---- as `sample_answer` makes its answer of them
+  -- ---- as `judge_point` makes its answer of them
 
-  pub told_one : T (fits binary32 sum) → T (fits binary32 energy) → (finite sum && finite energy) ≡ true → {script : List ℕ} → script ≡ sample_script_of sum energy
-      → {told : RunAnswer} → told ≡ ran_answer_of (run_of (zero_decays l) block script output) → uncounted_of told ≡ run_answer_of (sample_point_call_of l block sum energy).answer 0 0
-  told_one f g known script told = rw (told, script) (ap (λ (a : Answer). run_answer_of a 0 0) (one_run_lem f g known))
+  pub told_five : (finite sum && finite energy) ≡ false → no_run ≡ Err Script → Err InputNotFinite ≡ answer_of (sample_point_call_of l block sum energy)
+  told_five unknown seven = rw seven at (no_run_lem unknown)
 
-  module _ (unknown : (finite sum && finite energy) ≡ false) {told : RunAnswer} (is : told ≡ ran_answer_of (run_of (zero_decays l) block [] output)) where
-    pub told_five : told.number ≡ 7 → run_answer_of InputNotFinite 0 0 ≡ run_answer_of (sample_point_call_of l block sum energy).answer 0 0
-    told_five seven =
-        let n : number_of no_run ≡ 7 = sym (ap (λ (t : RunAnswer). t.number) is) ∙ seven in
-        ap (λ (a : Answer). run_answer_of a 0 0) (rw (eq-eqb (number_of no_run) 7 n) at (no_run_lem unknown))
+  pub told_other : (finite sum && finite energy) ≡ false → (no_run ≡ Err Script → ⊥) → no_run ≡ answer_of (sample_point_call_of l block sum energy)
+  told_other unknown other = rw (other_number no_run other) at (no_run_lem unknown)
 
-    pub told_other : eqb told.number 7 ≡ false → uncounted_of told ≡ run_answer_of (sample_point_call_of l block sum energy).answer 0 0
-    told_other other = rw is (ap (λ (a : Answer). run_answer_of a 0 0) (rw (rw is at other) at (no_run_lem unknown)))
+  -- ---- and `sample_point` its point
 
-  -- ---- the point beside it
+  pub point_refused : {refusal : Refusal} → answer_of (sample_point_call_of l block sum energy) ≡ Err refusal → Err refusal ≡ sample_point_call_of l block sum energy
+  point_refused = go (sample_point_call_of l block sum energy)
+    where
+      go : (r : Result CurvePoint Refusal) {refusal : Refusal} → answer_of r ≡ Err refusal → Err refusal ≡ r
+      go (Ok p) h = cc
+      go (Err refusal) h = cc
 
-  abbrev beside : RunAnswer → CurvePoint → PointAnswer
-  beside answer point = record { answer = answer; point = point }
+  pub point_handed : answer_of (sample_point_call_of l block sum energy) ≡ done → Ok (state_point_of l (fields_of block) sum) ≡ sample_point_call_of l block sum energy
+  unfolding sample_point_call_of
+  point_handed = go (decode_of block) refl
+    where
+      some : (judged : Answer) (p q : CurvePoint) → q ≡ p → answer_of (result_and judged (Ok p)) ≡ done → Ok q ≡ result_and judged (Ok p)
+      some (Ok _) p q same h = ap Ok same
+      some (Err refusal) p q same h = cc
 
-  module _ {told : RunAnswer} (is : told ≡ run_answer_of (sample_point_call_of l block sum energy).answer 0 0) where
-    pub done_point : told.number ≡ 0 → {p : CurvePoint} → p ≡ state_point_of l (fields_of block) sum
-        → beside told p ≡ point_answer_of (sample_point_call_of l block sum energy)
-    unfolding sample_point_call_of
-    done_point zero p = rw (is, p) (ap (beside (run_answer_of (sample_point_call_of l block sum energy).answer 0 0)) (go (decode_of block) refl (eq-eqb _ 0 (sym (ap (λ (t : RunAnswer). t.number) is) ∙ zero))))
-      where
-        go : (d : Option State) → decode_of block ≡ d → is_ok (pointed_of l d sum energy).answer ≡ true → state_point_of l (fields_of block) sum ≡ (pointed_of l d sum energy).point
-        go None h done = absurd (true≢false (sym done ∙ then_argument (judge_lent_of l)))
-        go (Some s) h done = rw (done, (decoded block s h).fields) refl
+      none : (judged : Answer) (q : CurvePoint) → answer_of {T = CurvePoint} (result_and judged (Err Argument)) ≡ done → Ok q ≡ result_and judged (Err Argument)
+      none (Ok _) q h = cc
+      none (Err refusal) q h = cc
 
-    pub refused_point : eqb told.number 0 ≡ false → beside told no_point ≡ point_answer_of (sample_point_call_of l block sum energy)
-    unfolding sample_point_call_of
-    refused_point other = rw is (ap (beside (run_answer_of (sample_point_call_of l block sum energy).answer 0 0)) (go (decode_of block) (rw is at other)))
-      where
-        go : (d : Option State) → is_ok (pointed_of l d sum energy).answer ≡ false → no_point ≡ (pointed_of l d sum energy).point
-        go None refused = refl
-        go (Some s) refused = rw refused refl
+      go : (d : Option State) → decode_of block ≡ d → answer_of (pointed_of l d sum energy) ≡ done → Ok (state_point_of l (fields_of block) sum) ≡ pointed_of l d sum energy
+      go None h is = none (judge_lent_of l) (state_point_of l (fields_of block) sum) is
+      go (Some s) h is = some (first_of (judge_lent_of l) (sample_refusal_of l s sum energy)) _ _ (ap (λ (t : State). state_point_of l t sum) (decoded block s h).fields) is

@@ -1,8 +1,10 @@
 -- What the C interface answers.
-use Rattle.std.specs.Prelude.{ℕ}
-use Rattle.answers.specs.Answers.{number_of, buffer_of, place_of, Answer}
+use Rattle.std.specs.Prelude.{ℕ, Result, Ok, Err}
+use Rattle.answers.specs.Answers.{number_of, buffer_of, place_of, Answer, done}
 use Rattle.run.specs.Run.{Run}
-use Rattle.direct.specs.declared.Pointed.{Pointed}
+use Rattle.answers.specs.declared.Refusal.{Refusal}
+use Rattle.curves.specs.declared.CurvePoint.{CurvePoint}
+use Rattle.curves.specs.Sampling.{no_point}
 use Rattle.sid_filter.specs.declared.RunAnswer.{RunAnswer}
 use Rattle.sid_filter.specs.declared.PointAnswer.{PointAnswer}
 
@@ -13,10 +15,7 @@ run_answer_of answer events samples = record { number = number_of answer; events
 abbrev pub ran_answer_of : Run → RunAnswer
 ran_answer_of r = run_answer_of r.answer r.events r.samples
 
--- The same without the counts of a run.
-abbrev pub uncounted_of : RunAnswer → RunAnswer
-uncounted_of ran = record { number = ran.number; events = 0; samples = 0; buffer = ran.buffer; place = ran.place }
-
--- A point as C has it.
-abbrev pub point_answer_of : Pointed → PointAnswer
-point_answer_of p = record { answer = run_answer_of p.answer 0 0; point = p.point }
+-- A point as C has it; zeros beside a refusal.
+abbrev pub point_answer_of : Result CurvePoint Refusal → PointAnswer
+point_answer_of (Ok p) = record { answer = run_answer_of done 0 0; point = p }
+point_answer_of (Err refusal) = record { answer = run_answer_of (Err refusal) 0 0; point = no_point }

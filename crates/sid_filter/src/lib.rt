@@ -2,8 +2,8 @@
 #![tactic(auto)]
 
 ghost use Rattle.std.specs.Prelude.{◌≡◌, length, replicate};
-ghost use Rattle.answers.specs.declared.Answer.TheVariants.{Argument};
-ghost use Rattle.answers.specs.Answers.{unless_of};
+ghost use Rattle.answers.specs.declared.Refusal.TheVariants.{Argument};
+ghost use Rattle.answers.specs.Answers.{answer_of, unless_of};
 ghost use Rattle.bundle.specs.Opening.{open_of};
 ghost use Rattle.curves.specs.Building.{judge_build_of, build_of};
 ghost use Rattle.control.specs.Widening.{widens_of, widened_of};
@@ -12,12 +12,11 @@ ghost use Rattle.run.specs.Run.{run_of};
 ghost use Rattle.signals.specs.Collecting.{collect_answer_of, collected_of};
 ghost use Rattle.direct.specs.Calls.{sample_curve_call_of, volume_transfer_call_of};
 ghost use Rattle.points.specs.Points.{summer_call_of, mixer_call_of, sample_point_call_of};
-ghost use Rattle.sid_filter.specs.Calls.{run_answer_of, ran_answer_of, uncounted_of, point_answer_of};
+ghost use Rattle.sid_filter.specs.Calls.{run_answer_of, ran_answer_of, point_answer_of};
 
-use answers::Answer;
+use answers::{Answer, Refusal};
 use control::State;
 use curves::CurvePoint;
-use direct::Pointed;
 
 // An answer to C: its number, the events done and the samples written by a run, and buffer and place where the table names them.
 #[repr(C)]
@@ -51,14 +50,19 @@ fn run_answer(answer: Answer, events: u32, samples: u32) -> RunAnswer
     }
 }
 
-fn point_answer(pointed: Pointed) -> PointAnswer
+// A point, and zeros beside a refusal.
+fn point_answer(pointed: Result<CurvePoint, Refusal>) -> PointAnswer
     ensures { result ≡ point_answer_of pointed }
 {
-    let answer = pointed.answer;
-    let point = pointed.point;
-    PointAnswer {
-        answer: run_answer(answer, 0, 0),
-        point,
+    match pointed {
+        Ok(point) => PointAnswer {
+            answer: run_answer(Ok(()), 0, 0),
+            point,
+        },
+        Err(refusal) => PointAnswer {
+            answer: run_answer(Err(refusal), 0, 0),
+            point: curves::no_point(),
+        },
     }
 }
 
@@ -105,8 +109,7 @@ pub extern "C" fn sid_filter_run(
     ensures output_after { output.new ≡ (run_of (lent_all bundle.now curves.now decays.now) state.old script.now output.old).output }
 {
     let ended = run::run(bundle, curves, state, decays, script, output);
-    let answer = ended.answer;
-    run_answer(answer, ended.events as u32, ended.samples as u32)
+    run_answer(ended.answer, ended.events as u32, ended.samples as u32)
 }
 
 // ---- voices
@@ -169,49 +172,49 @@ pub extern "C" fn sid_filter_volume(curves: &[u8], volume: u8, value: f32) -> Po
     point_answer(direct::volume_transfer(curves, volume, value))
 }
 
-// A run on a copy of a block, with room for one sample. No sample reads the decays: zeros do.
-fn tried(bundle: &[u8], curves: &[u8], block: &[u8], script: &[u8]) -> RunAnswer
+// What a run on a copy of a block answers, with room for one sample. No sample reads the decays: zeros do.
+fn tried(bundle: &[u8], curves: &[u8], block: &[u8], script: &[u8]) -> Answer
     requires { length block.now ≡ 68 }
-    ensures { result ≡ ran_answer_of (run_of (lent_all bundle.now curves.now (replicate 24 0)) block.now script.now (replicate 16 0)) }
+    ensures { result ≡ (run_of (lent_all bundle.now curves.now (replicate 24 0)) block.now script.now (replicate 16 0)).answer }
 {
     let mut kept = [0; 68];
     let decays = [0; 24];
     let mut output = [0; 16];
     wire::put(&mut kept, 0, block);
-    sid_filter_run(bundle, curves, &mut kept, &decays, script, &mut output)
-}
-
-// An answer without the counts of a run.
-fn uncounted(ran: RunAnswer) -> RunAnswer
-    ensures { result ≡ uncounted_of ran }
-{
-    RunAnswer {
-        number: ran.number,
-        events: 0,
-        samples: 0,
-        buffer: ran.buffer,
-        place: ran.place,
-    }
+    run::run(bundle, curves, &mut kept, &decays, script, &mut output).answer
 }
 
 // What a sample of the state in a block answers: as the run of that one sample. Where the sum or the energy is not finite, as a run without a script, which judges
 // what is lent and the block, and the 7 that it then has is the 5.
-fn sample_answer(bundle: &[u8], curves: &[u8], state: &[u8], sum: f32, energy: f32) -> RunAnswer
-    ensures { result ≡ run_answer_of (sample_point_call_of (lent_of bundle.now curves.now) state.now sum energy).answer 0 0 }
+fn judge_point(bundle: &[u8], curves: &[u8], state: &[u8], sum: f32, energy: f32) -> Answer
+    ensures { result ≡ answer_of (sample_point_call_of (lent_of bundle.now curves.now) state.now sum energy) }
 {
     if state.len() != State::BYTES {
         let lent = filter::judge_lent(bundle, curves);
-        return run_answer(answers::first(lent, Err(Refusal::Argument)), 0, 0);
+        return answers::first(lent, Err(Refusal::Argument));
     }
     if floats::is_finite(sum) & floats::is_finite(energy) {
         let script = points::sample_script(sum, energy);
-        return uncounted(tried(bundle, curves, state, &script));
+        return tried(bundle, curves, state, &script);
     }
-    let told = tried(bundle, curves, state, &state[0..0]);
-    if told.number == 7 {
-        return run_answer(Err(Refusal::InputNotFinite), 0, 0);
+    match tried(bundle, curves, state, &state[0..0]) {
+        Err(Refusal::Script) => Err(Refusal::InputNotFinite),
+        judged => judged,
     }
-    uncounted(told)
+}
+
+// The summer's point for a sample of the state in a block.
+fn sample_point(
+    bundle: &[u8],
+    curves: &[u8],
+    state: &[u8],
+    sum: f32,
+    energy: f32,
+) -> Result<CurvePoint, Refusal>
+    ensures { result ≡ sample_point_call_of (lent_of bundle.now curves.now) state.now sum energy }
+{
+    judge_point(bundle, curves, state, sum, energy)?;
+    Ok(points::state_point(bundle, curves, State::fields(state), sum))
 }
 
 // The summer for a sample of the state in a block: zeros where the sample is idle. Refuses 1, 2, 4, 10, 5, 3, 6.
@@ -225,15 +228,5 @@ pub extern "C" fn sid_filter_sample_point(
 ) -> PointAnswer
     ensures { result ≡ point_answer_of (sample_point_call_of (lent_of bundle.now curves.now) state.now sum energy) }
 {
-    let answer = sample_answer(bundle, curves, state, sum, energy);
-    if answer.number == 0 {
-        return PointAnswer {
-            answer,
-            point: points::state_point(bundle, curves, State::fields(state), sum),
-        };
-    }
-    PointAnswer {
-        answer,
-        point: curves::no_point(),
-    }
+    point_answer(sample_point(bundle, curves, state, sum, energy))
 }

@@ -2,7 +2,7 @@
 #![tactic(auto)]
 
 ghost use Rattle.std.specs.Prelude.{◌≡◌, length};
-ghost use Rattle.answers.specs.declared.Answer.TheVariants.{Argument};
+ghost use Rattle.answers.specs.declared.Refusal.TheVariants.{Argument};
 ghost use Rattle.answers.specs.Answers.{unless_of};
 ghost use Rattle.bundle.specs.Opening.{open_of};
 ghost use Rattle.curves.specs.Building.{judge_build_of, build_of};
