@@ -1,7 +1,6 @@
-use lib.Ieee.{div, neg, of_bits}
-use Rattle.floats.proofs.Laws.{finite_tests}
+use Rattle.std.proofs.Common.{◌∙◌}
+use Rattle.floats.proofs.Library.{is_finite_lem}
 use Rattle.floats.proofs.is_finite.Goals as goal
 
 pub returns : goal.returns
-unfolding div neg of_bits
-returns c = finite_tests c.args.x
+returns c = c.is_finite.ensures.value ∙ is_finite_lem c.args.x
