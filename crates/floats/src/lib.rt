@@ -1,12 +1,11 @@
-// Rust's operations on floats that Rattle lacks. Each public one gives Rust's value for every input, a NaN, the infinities and both zeros included;
+// Rust's operations on floats, with what specs/ says of each. Each public one gives Rust's value for every input, a NaN, the infinities and both zeros included;
 // `of_usize` alone stops at 2^24.
 #![tactic(auto)]
 
-ghost use Rattle.std.specs.Prelude.{◌≡◌, ◌<◌, ◌≤◌, false, not, T, pos, is_nan};
-ghost use Rattle.std.specs.Float.{binary32, binary64};
-ghost use Rattle.std.specs.Float.Ieee.{of_fields, of_int, to_unsigned, to_signed};
+ghost use Rattle.std.specs.Prelude.{◌≡◌, pos};
+ghost use Rattle.std.specs.Float.{binary32};
+ghost use Rattle.std.specs.Float.Ieee.{of_int, to_unsigned, to_signed};
 ghost use Rattle.std.specs.Float.Ieee.Scale.{finite};
-ghost use Rattle.std.specs.Float.Ieee.Nearest.{closest as closest_of};
 ghost use Rattle.floats.specs.Floats.{abs_of, clamp_of, round_of, narrow_of, finite_f32_of, of_small};
 
 // x.abs(), by clearing the sign bit: the library's compares twice and selects twice.
