@@ -158,7 +158,7 @@ pub fn finite_at(s: &[u8], p: usize) -> bool
 
 // ---- the first unusable entry
 
-// Whether 64 entries are left at p, and each of the 64 is usable. With no way out of the loop the compiler makes vector code of it.
+// Whether 64 entries are left at p, and each of the 64 is usable. With no way out of the loop, as `all` has one, the compiler makes vector code of it.
 fn block_usable(s: &[u8], p: usize, left: usize) -> bool
     requires { p + 4 * left ≤ length s.now }
     ensures { result ≡ block_usable_of s.now p left }
@@ -173,7 +173,7 @@ fn block_usable(s: &[u8], p: usize, left: usize) -> bool
     all
 }
 
-// Of n entries that lie whole in the bytes: 64 at a time where they are usable, else one.
+// Of n entries that lie whole in the bytes: 64 at a time where they are usable, else one. A step is of either length, so no `for` has it.
 fn scan(s: &[u8], from: usize, n: usize) -> usize
     requires { from + 4 * n ≤ length s.now }
     ensures { result ≡ first_unusable_of s.now from n }
@@ -218,10 +218,7 @@ pub fn sixteen_usable(s: &[u8], place: u32) -> bool
 {
     let p = place as usize;
     if holds(s, p, 64) {
-        four_usable(s, p)
-            & four_usable(s, p + 16)
-            & four_usable(s, p + 32)
-            & four_usable(s, p + 48)
+        four_usable(s, p) & four_usable(s, p + 16) & four_usable(s, p + 32) & four_usable(s, p + 48)
     } else {
         first_unusable(s, p, 16) == 16
     }
