@@ -1,21 +1,6 @@
-use mathlib.Core.Path.{refl}
-use Rattle.constants.specs.Values.{filter_symmetric_loading_gain}
 use Rattle.constants.specs.Tables.{symmetric_loading_gain_of}
-use Rattle.constants.proofs.Tables.{past_rows}
 use Rattle.constants.proofs.symmetric_loading_gain.Goals as goal
 
-pub returns-in-0 : goal.returns-in-0
+pub returns : goal.returns
 unfolding symmetric_loading_gain_of
-returns-in-0 c = rw c.in-0.is c.symmetric_loading_gain_low.ensures
-
-pub returns-in-1 : goal.returns-in-1
-unfolding symmetric_loading_gain_of
-returns-in-1 c = rw c.in-1.is c.symmetric_loading_gain_band.ensures
-
-pub returns-in-2 : goal.returns-in-2
-unfolding symmetric_loading_gain_of
-returns-in-2 c = rw c.in-2.is c.symmetric_loading_gain_high.ensures
-
-pub returns-in_default : goal.returns-in_default
-unfolding symmetric_loading_gain_of
-returns-in_default c = past_rows 3 filter_symmetric_loading_gain refl _ _ c.in_default.in_default-own.rest
+returns c = c.entry.ensures
