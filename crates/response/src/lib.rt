@@ -1,7 +1,7 @@
 // The stateless laws of the analogue response: what follows from registers and levels alone.
 #![tactic(auto)]
 
-ghost use Rattle.std.specs.Prelude.{◌≡◌, ◌+◌, ◌<◌, min, not, T, pos};
+ghost use Rattle.std.specs.Prelude.{◌≡◌, ◌+◌, ◌<◌, ℕ, Float, min, not, T, pos};
 ghost use Rattle.std.specs.Float.{binary32};
 ghost use Rattle.std.specs.Float.Ieee.{is_nan, of_int, to_unsigned};
 ghost use Rattle.floats.specs.Arithmetic.{f32};
@@ -379,16 +379,22 @@ pub fn mode_index(m: u8) -> u8
     }
 }
 
+// A row of a loading table at a cutoff, between its entries. The table is a function of a row and an entry.
+fn loading<F: Fn(usize, usize) -> f32>(table: F, row: usize, cutoff: u16) -> f32
+    requires { F.IsAlwaysCallable table }
+    ensures { (g : ℕ → ℕ → Float) → ((m i : ℕ) (x : Float) → F.post table m i x → x ≡ g m i) → result ≡ G.loading_of g row cutoff }
+{
+    let at = loading_position(cutoff);
+    interpolate(table(row, at.lower), table(row, at.upper), at.fraction)
+}
+
 #[tactic(auto, unfolding(crate::specs::Gain::single_mode_loading_of))]
 fn single_mode_loading(m: u8, resonance: u8, cutoff: u16) -> f32
     ensures { result ≡ G.single_mode_loading_of m resonance cutoff }
 {
     if is_single_mode(m) {
         let row = mode_index(m) as usize;
-        let at = loading_position(cutoff);
-        let lower = constants::single_mode_cutoff_gain(row, at.lower);
-        let upper = constants::single_mode_cutoff_gain(row, at.upper);
-        interpolate(lower, upper, at.fraction)
+        loading(constants::single_mode_cutoff_gain, row, cutoff)
             * constants::single_mode_resonance_gain(row, resonance as usize)
     } else {
         1.0
@@ -431,8 +437,5 @@ pub fn filter_mode_output_gain(mode: u8, resonance: u8, cutoff: u16, loading: f3
 pub fn symmetric_gain(mode_index: usize, cutoff: u16) -> f32
     ensures { result ≡ G.symmetric_gain_of mode_index cutoff }
 {
-    let at = loading_position(cutoff);
-    let lower = constants::symmetric_loading_gain(mode_index, at.lower);
-    let upper = constants::symmetric_loading_gain(mode_index, at.upper);
-    interpolate(lower, upper, at.fraction)
+    loading(constants::symmetric_loading_gain, mode_index, cutoff)
 }
