@@ -440,6 +440,7 @@ fn entry<const N: usize>(table: &[[f32; N]; 3], m: usize, i: usize) -> f32
 }
 
 // Entry i, 0 to 31, of a mode's load over the cutoff, and NaN past the table. Modes are 0 low, 1 band, 2 high.
+#[tactic(auto, unfolding(crate::specs::Tables::single_mode_cutoff_gain_of))]
 pub fn single_mode_cutoff_gain(mode_index: usize, i: usize) -> f32
     ensures { result ≡ single_mode_cutoff_gain_of mode_index i }
 {
@@ -447,6 +448,7 @@ pub fn single_mode_cutoff_gain(mode_index: usize, i: usize) -> f32
 }
 
 // The same over the resonance, 0 to 15.
+#[tactic(auto, unfolding(crate::specs::Tables::single_mode_resonance_gain_of))]
 pub fn single_mode_resonance_gain(mode_index: usize, resonance: usize) -> f32
     ensures { result ≡ single_mode_resonance_gain_of mode_index resonance }
 {
@@ -454,6 +456,7 @@ pub fn single_mode_resonance_gain(mode_index: usize, resonance: usize) -> f32
 }
 
 // The gain that does not depend on the direction of the step: i is 0 to 31.
+#[tactic(auto, unfolding(crate::specs::Tables::symmetric_loading_gain_of))]
 pub fn symmetric_loading_gain(mode_index: usize, i: usize) -> f32
     ensures { result ≡ symmetric_loading_gain_of mode_index i }
 {

@@ -33,6 +33,7 @@ pub fn clamp(x: f32, lo: f32, hi: f32) -> f32
 }
 
 // Neither a NaN nor an infinity.
+#[tactic(auto, using(crate::proofs::Library::is_finite_lem))]
 pub fn is_finite(x: f32) -> bool
     ensures { result ≡ finite x }
 {
@@ -40,6 +41,7 @@ pub fn is_finite(x: f32) -> bool
 }
 
 // The same, with what its type says: a finite f32 as a field of a valid state is.
+#[tactic(auto, unfolding(crate::specs::Floats::finite_f32_of))]
 pub fn finite_f32(x: f32) -> bool
     ensures { result ≡ finite_f32_of x }
 {
@@ -47,6 +49,7 @@ pub fn finite_f32(x: f32) -> bool
 }
 
 // The same of an f64.
+#[tactic(auto, using(crate::proofs::Library::is_finite_lem))]
 pub fn is_finite_f64(x: f64) -> bool
     ensures { result ≡ finite x }
 {
@@ -105,6 +108,7 @@ pub fn of_usize(n: usize) -> f32
 }
 
 // x.round(): half away from zero, zero's sign kept.
+#[tactic(auto, using(crate::proofs::Library::round_lem))]
 pub fn round(x: f32) -> f32
     ensures { result ≡ round_of binary32 x }
 {
@@ -112,6 +116,7 @@ pub fn round(x: f32) -> f32
 }
 
 // x as f32: the nearest f32, and the even one where two are as near.
+#[tactic(auto, using(crate::proofs::Library::narrow_lem))]
 pub fn narrow(x: f64) -> f32
     ensures { result ≡ narrow_of x }
 {

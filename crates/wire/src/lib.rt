@@ -42,6 +42,7 @@ pub fn float_bits(x: f32) -> u32
 }
 
 // Whether a pattern is a usable entry's: finite and at most 1,024 in magnitude.
+#[tactic(auto, unfolding(crate::specs::Wire::usable_of))]
 pub fn usable(bits: u32) -> bool
     ensures { result ≡ usable_of bits }
 {
@@ -49,6 +50,7 @@ pub fn usable(bits: u32) -> bool
 }
 
 // Whether a pattern is a finite float's.
+#[tactic(auto, unfolding(crate::specs::Wire::finite_bits_of))]
 pub fn finite_bits(bits: u32) -> bool
     ensures { result ≡ finite_bits_of bits }
 {
@@ -72,6 +74,7 @@ fn holds(s: &[u8], p: usize, n: usize) -> bool
 }
 
 // Two bytes that are there: one load.
+#[tactic(auto, using(crate::proofs::Laws::two_bytes))]
 fn pair(s: &[u8], p: usize) -> u16
     requires { p + 2 ≤ length s.now }
     ensures { result ≡ u16_at s.now p }
@@ -80,6 +83,7 @@ fn pair(s: &[u8], p: usize) -> u16
 }
 
 // Four bytes that are there: one load.
+#[tactic(auto, using(crate::proofs::Laws::four_bytes))]
 fn word(s: &[u8], p: usize) -> u32
     requires { p + 4 ≤ length s.now }
     ensures { result ≡ u32_at s.now p }
@@ -95,6 +99,7 @@ pub fn byte_at(s: &[u8], p: usize) -> u8
 }
 
 // The two bytes at a place, and 0 where they are not both there.
+#[tactic(auto, using(crate::proofs::Laws::number_at_out))]
 pub fn u16_at(s: &[u8], p: usize) -> u16
     ensures { result ≡ u16_at s.now p }
 {
@@ -102,6 +107,7 @@ pub fn u16_at(s: &[u8], p: usize) -> u16
 }
 
 // The same two bytes as a signed number.
+#[tactic(auto, unfolding(crate::specs::Wire::i16_at))]
 pub fn i16_at(s: &[u8], p: usize) -> i16
     ensures { result ≡ i16_at s.now p }
 {
@@ -109,6 +115,7 @@ pub fn i16_at(s: &[u8], p: usize) -> i16
 }
 
 // The four bytes at a place, and 0 where they are not all there.
+#[tactic(auto, using(crate::proofs::Laws::number_at_out))]
 pub fn u32_at(s: &[u8], p: usize) -> u32
     ensures { result ≡ u32_at s.now p }
 {
@@ -150,6 +157,7 @@ pub fn usable_at(s: &[u8], p: usize) -> bool
 }
 
 // Whether the float at a place is finite.
+#[tactic(auto, using(crate::proofs::Floats::finite_bits_is))]
 pub fn finite_at(s: &[u8], p: usize) -> bool
     ensures { result ≡ finite_at s.now p }
 {
