@@ -123,6 +123,7 @@ pub fn refresh_register_output_state(r: FilterRegisters) -> OutputControls
 
 // ---- the finite domain
 
+// With no way out of the loop, as `all` has one: a number costs no branch.
 fn all_finite(values: &[f32]) -> bool
     ensures { result ≡ J.all_finite values.now }
 {

@@ -67,7 +67,8 @@ fn terms(mode: u8) -> [f32; 11]
     ]
 }
 
-// The point: a polynomial in the volume for each term in the mode's bits. An iterator's sum starts from -0.0.
+// The point: a polynomial in the volume for each term in the mode's bits. An iterator's sum starts from -0.0. By index, since the check
+// finds no proof of a `zip`, a `map` and a `sum`.
 pub fn frozen_dac_operating_point(mode: u8, volume: u8) -> f32
     ensures { result ≡ F.frozen_dac_operating_point_of mode volume }
 {

@@ -61,7 +61,7 @@ pub fn interpolate(lower: f32, upper: f32, fraction: f32) -> f32
     lower + (upper - lower) * fraction
 }
 
-// The branches of the volume DAC that are on.
+// The branches of the volume DAC that are on, step by step: a loop would want a definition of its partial sum.
 #[tactic(auto, unfolding(crate::specs::Levels::branch_sum_of))]
 fn branch_sum(volume: u8) -> f32
     ensures { result ≡ branch_sum_of volume }
