@@ -4,7 +4,7 @@
 ghost use Rattle.std.specs.Prelude.{◌≡◌};
 ghost use Rattle.constants.specs.Values as K;
 ghost use Rattle.constants.specs.Drives.{input_drives_of, feedback_drives_of};
-ghost use Rattle.constants.specs.Tables.{NoneOf, InRows, row_entry, single_mode_cutoff_gain_of, single_mode_resonance_gain_of, symmetric_loading_gain_of};
+ghost use Rattle.constants.specs.Tables.{row_entry, single_mode_cutoff_gain_of, single_mode_resonance_gain_of, symmetric_loading_gain_of};
 
 // The cutoff DAC's ladder: the ratio of its 2R to its R resistors, and the level of a bit that is off.
 pub const SID_FILTER_DAC_TWO_R_OVER_R: f64 = 1.879;
@@ -116,334 +116,73 @@ pub const FILTER_BANDPASS_GAIN_TRIM_CUTOFF_SLOPE: f32 = 0.16;
 
 pub const FILTER_BANDPASS_OUTPUT_TRIM: f32 = 0.846_128_7;
 
-// Past a row's end, where every table has NaN: of the rows over the cutoff, and of those over the resonance.
-fn past_cutoff_rows(i: usize) -> f32
-    requires { NoneOf 32 i }
-    ensures { InRows K.filter_single_mode_cutoff_gain i result × InRows K.filter_symmetric_loading_gain i result }
-{
-    0.0 / 0.0
-}
-
-fn past_resonance_rows(i: usize) -> f32
-    requires { NoneOf 16 i }
-    ensures { InRows K.filter_single_mode_resonance_gain i result }
-{
-    0.0 / 0.0
-}
-
 // The load on the output of a mode that is on alone, a row each for low, band and high: over the cutoff, and over the resonance.
-fn single_mode_cutoff_gain_low(i: usize) -> f32
-    ensures { result ≡ row_entry K.filter_single_mode_cutoff_gain 0 i }
-{
-    match i {
-        0 => 1.0,
-        1 => 1.0,
-        2 => 1.23353623,
-        3 => 0.89895064,
-        4 => 0.86740986,
-        5 => 0.85526656,
-        6 => 0.84718767,
-        7 => 0.84884046,
-        8 => 0.86227679,
-        9 => 0.87671523,
-        10 => 0.88607646,
-        11 => 0.89402053,
-        12 => 0.90257817,
-        13 => 0.91483444,
-        14 => 0.92907219,
-        15 => 0.94157819,
-        16 => 0.95622251,
-        17 => 0.97426037,
-        18 => 0.99266103,
-        19 => 1.01210112,
-        20 => 1.02934943,
-        21 => 1.03989924,
-        22 => 1.04441322,
-        23 => 1.04383719,
-        24 => 1.04116640,
-        25 => 1.03644809,
-        26 => 1.02943435,
-        27 => 1.02353474,
-        28 => 1.05295808,
-        29 => 1.0,
-        30 => 1.0,
-        31 => 1.0,
-        _ => past_cutoff_rows(i),
-    }
-}
+static FILTER_SINGLE_MODE_CUTOFF_GAIN: [[f32; 32]; 3] = [
+    [
+        1.0, 1.0, 1.23353623, 0.89895064, 0.86740986, 0.85526656, 0.84718767, 0.84884046,
+        0.86227679, 0.87671523, 0.88607646, 0.89402053, 0.90257817, 0.91483444, 0.92907219,
+        0.94157819, 0.95622251, 0.97426037, 0.99266103, 1.01210112, 1.02934943, 1.03989924,
+        1.04441322, 1.04383719, 1.04116640, 1.03644809, 1.02943435, 1.02353474, 1.05295808, 1.0,
+        1.0, 1.0,
+    ],
+    [
+        0.89093639, 1.13634142, 0.97812194, 0.86039058, 0.91946334, 0.96311392, 1.00244342,
+        1.04029696, 1.06731510, 1.06559903, 1.05455488, 1.06080772, 1.08175473, 1.09638590,
+        1.09767025, 1.11775615, 1.17183848, 1.23149359, 1.27929831, 1.30239330, 1.30120409,
+        1.29489753, 1.27214687, 1.22549025, 1.17642266, 1.14213297, 1.10644345, 1.01442249,
+        1.10323332, 1.68230621, 1.37379690, 0.49436831,
+    ],
+    [
+        1.31723193, 1.14871818, 1.05818941, 1.03192606, 1.00364194, 0.97844439, 0.96093557,
+        0.95107789, 0.94767043, 0.95145714, 0.96612163, 1.00017911, 1.03907290, 1.07079645,
+        1.13330182, 1.25638278, 1.41911372, 1.56058533, 1.64288642, 1.68253238, 1.69442833,
+        1.70359570, 1.72694245, 1.74100566, 1.77025222, 1.84478685, 1.90582228, 1.85591364,
+        1.66984516, 2.55944267, 2.51802873, 0.52698360,
+    ],
+];
 
-fn single_mode_cutoff_gain_band(i: usize) -> f32
-    ensures { result ≡ row_entry K.filter_single_mode_cutoff_gain 1 i }
-{
-    match i {
-        0 => 0.89093639,
-        1 => 1.13634142,
-        2 => 0.97812194,
-        3 => 0.86039058,
-        4 => 0.91946334,
-        5 => 0.96311392,
-        6 => 1.00244342,
-        7 => 1.04029696,
-        8 => 1.06731510,
-        9 => 1.06559903,
-        10 => 1.05455488,
-        11 => 1.06080772,
-        12 => 1.08175473,
-        13 => 1.09638590,
-        14 => 1.09767025,
-        15 => 1.11775615,
-        16 => 1.17183848,
-        17 => 1.23149359,
-        18 => 1.27929831,
-        19 => 1.30239330,
-        20 => 1.30120409,
-        21 => 1.29489753,
-        22 => 1.27214687,
-        23 => 1.22549025,
-        24 => 1.17642266,
-        25 => 1.14213297,
-        26 => 1.10644345,
-        27 => 1.01442249,
-        28 => 1.10323332,
-        29 => 1.68230621,
-        30 => 1.37379690,
-        31 => 0.49436831,
-        _ => past_cutoff_rows(i),
-    }
-}
-
-fn single_mode_cutoff_gain_high(i: usize) -> f32
-    ensures { result ≡ row_entry K.filter_single_mode_cutoff_gain 2 i }
-{
-    match i {
-        0 => 1.31723193,
-        1 => 1.14871818,
-        2 => 1.05818941,
-        3 => 1.03192606,
-        4 => 1.00364194,
-        5 => 0.97844439,
-        6 => 0.96093557,
-        7 => 0.95107789,
-        8 => 0.94767043,
-        9 => 0.95145714,
-        10 => 0.96612163,
-        11 => 1.00017911,
-        12 => 1.03907290,
-        13 => 1.07079645,
-        14 => 1.13330182,
-        15 => 1.25638278,
-        16 => 1.41911372,
-        17 => 1.56058533,
-        18 => 1.64288642,
-        19 => 1.68253238,
-        20 => 1.69442833,
-        21 => 1.70359570,
-        22 => 1.72694245,
-        23 => 1.74100566,
-        24 => 1.77025222,
-        25 => 1.84478685,
-        26 => 1.90582228,
-        27 => 1.85591364,
-        28 => 1.66984516,
-        29 => 2.55944267,
-        30 => 2.51802873,
-        31 => 0.52698360,
-        _ => past_cutoff_rows(i),
-    }
-}
-
-fn single_mode_resonance_gain_low(i: usize) -> f32
-    ensures { result ≡ row_entry K.filter_single_mode_resonance_gain 0 i }
-{
-    match i {
-        0 => 1.00630351,
-        1 => 1.00073388,
-        2 => 0.99603216,
-        3 => 0.98889116,
-        4 => 0.99926666,
-        5 => 0.99028775,
-        6 => 0.99058415,
-        7 => 0.98036540,
-        8 => 0.99781395,
-        9 => 1.01537258,
-        10 => 1.02951897,
-        11 => 1.03220971,
-        12 => 1.04246099,
-        13 => 1.03675808,
-        14 => 1.02646305,
-        15 => 0.99761809,
-        _ => past_resonance_rows(i),
-    }
-}
-
-fn single_mode_resonance_gain_band(i: usize) -> f32
-    ensures { result ≡ row_entry K.filter_single_mode_resonance_gain 1 i }
-{
-    match i {
-        0 => 1.05848653,
-        1 => 1.03617474,
-        2 => 1.02286838,
-        3 => 1.00757282,
-        4 => 0.98742304,
-        5 => 0.96558247,
-        6 => 0.94568571,
-        7 => 0.92456103,
-        8 => 0.92323363,
-        9 => 0.94834975,
-        10 => 0.97143255,
-        11 => 1.00321903,
-        12 => 1.02699835,
-        13 => 1.02721612,
-        14 => 1.04865660,
-        15 => 1.04748858,
-        _ => past_resonance_rows(i),
-    }
-}
-
-fn single_mode_resonance_gain_high(i: usize) -> f32
-    ensures { result ≡ row_entry K.filter_single_mode_resonance_gain 2 i }
-{
-    match i {
-        0 => 0.99266444,
-        1 => 0.97056585,
-        2 => 0.96428306,
-        3 => 0.96636973,
-        4 => 0.97260598,
-        5 => 0.98380531,
-        6 => 0.98886633,
-        7 => 0.99618476,
-        8 => 1.01294612,
-        9 => 1.01406545,
-        10 => 1.01395639,
-        11 => 1.00681010,
-        12 => 1.00532142,
-        13 => 0.99928534,
-        14 => 1.00667762,
-        15 => 1.04021323,
-        _ => past_resonance_rows(i),
-    }
-}
+static FILTER_SINGLE_MODE_RESONANCE_GAIN: [[f32; 16]; 3] = [
+    [
+        1.00630351, 1.00073388, 0.99603216, 0.98889116, 0.99926666, 0.99028775, 0.99058415,
+        0.98036540, 0.99781395, 1.01537258, 1.02951897, 1.03220971, 1.04246099, 1.03675808,
+        1.02646305, 0.99761809,
+    ],
+    [
+        1.05848653, 1.03617474, 1.02286838, 1.00757282, 0.98742304, 0.96558247, 0.94568571,
+        0.92456103, 0.92323363, 0.94834975, 0.97143255, 1.00321903, 1.02699835, 1.02721612,
+        1.04865660, 1.04748858,
+    ],
+    [
+        0.99266444, 0.97056585, 0.96428306, 0.96636973, 0.97260598, 0.98380531, 0.98886633,
+        0.99618476, 1.01294612, 1.01406545, 1.01395639, 1.00681010, 1.00532142, 0.99928534,
+        1.00667762, 1.04021323,
+    ],
+];
 
 // The same rows for a moving cutoff: the part of the gain that does not depend on the step's direction. (The other part is in the bundle.)
-fn symmetric_loading_gain_low(i: usize) -> f32
-    ensures { result ≡ row_entry K.filter_symmetric_loading_gain 0 i }
-{
-    match i {
-        0 => 1.00000000,
-        1 => 1.00000000,
-        2 => 1.00000000,
-        3 => 1.00000000,
-        4 => 1.00000000,
-        5 => 1.00000000,
-        6 => 1.00000000,
-        7 => 1.00000000,
-        8 => 1.00000000,
-        9 => 1.00000000,
-        10 => 1.00000000,
-        11 => 1.00000000,
-        12 => 1.00000000,
-        13 => 1.00000000,
-        14 => 1.00000000,
-        15 => 1.00000000,
-        16 => 1.00000000,
-        17 => 1.00000000,
-        18 => 1.00000000,
-        19 => 1.00000000,
-        20 => 1.00000000,
-        21 => 1.00000000,
-        22 => 1.00000000,
-        23 => 1.00000000,
-        24 => 1.00000000,
-        25 => 1.00000000,
-        26 => 1.00000000,
-        27 => 1.00000000,
-        28 => 1.00000000,
-        29 => 1.00000000,
-        30 => 1.00000000,
-        31 => 1.00000000,
-        _ => past_cutoff_rows(i),
-    }
-}
-
-fn symmetric_loading_gain_band(i: usize) -> f32
-    ensures { result ≡ row_entry K.filter_symmetric_loading_gain 1 i }
-{
-    match i {
-        0 => 1.09330756,
-        1 => 0.82283497,
-        2 => 0.83008611,
-        3 => 0.91884152,
-        4 => 0.98863140,
-        5 => 0.99929709,
-        6 => 1.02952338,
-        7 => 1.03804137,
-        8 => 1.01706013,
-        9 => 1.01167829,
-        10 => 1.01613454,
-        11 => 1.02907269,
-        12 => 1.03903550,
-        13 => 1.01683951,
-        14 => 0.98966821,
-        15 => 0.98175867,
-        16 => 0.98936190,
-        17 => 1.02742924,
-        18 => 1.03887273,
-        19 => 1.04408989,
-        20 => 1.04965008,
-        21 => 1.03288924,
-        22 => 1.01529653,
-        23 => 0.99038672,
-        24 => 1.02531015,
-        25 => 1.02002558,
-        26 => 1.04102769,
-        27 => 0.99527514,
-        28 => 0.83526745,
-        29 => 0.81144426,
-        30 => 1.05536789,
-        31 => 1.63472715,
-        _ => past_cutoff_rows(i),
-    }
-}
-
-fn symmetric_loading_gain_high(i: usize) -> f32
-    ensures { result ≡ row_entry K.filter_symmetric_loading_gain 2 i }
-{
-    match i {
-        0 => 0.91209361,
-        1 => 0.94250347,
-        2 => 0.99888706,
-        3 => 1.02097301,
-        4 => 1.01384441,
-        5 => 1.01338901,
-        6 => 1.00833940,
-        7 => 1.00595227,
-        8 => 1.00686148,
-        9 => 1.00283746,
-        10 => 1.00495545,
-        11 => 1.01693755,
-        12 => 1.02628255,
-        13 => 0.99278781,
-        14 => 0.97194577,
-        15 => 0.98594703,
-        16 => 0.99127781,
-        17 => 1.04047916,
-        18 => 1.04668138,
-        19 => 1.04619147,
-        20 => 1.04717928,
-        21 => 1.03226866,
-        22 => 1.02158493,
-        23 => 0.99095460,
-        24 => 1.03283741,
-        25 => 1.03252721,
-        26 => 1.04036051,
-        27 => 1.08427591,
-        28 => 0.94379028,
-        29 => 0.93381396,
-        30 => 1.39023005,
-        31 => 2.55917735,
-        _ => past_cutoff_rows(i),
-    }
-}
+static FILTER_SYMMETRIC_LOADING_GAIN: [[f32; 32]; 3] = [
+    [
+        1.00000000, 1.00000000, 1.00000000, 1.00000000, 1.00000000, 1.00000000, 1.00000000,
+        1.00000000, 1.00000000, 1.00000000, 1.00000000, 1.00000000, 1.00000000, 1.00000000,
+        1.00000000, 1.00000000, 1.00000000, 1.00000000, 1.00000000, 1.00000000, 1.00000000,
+        1.00000000, 1.00000000, 1.00000000, 1.00000000, 1.00000000, 1.00000000, 1.00000000,
+        1.00000000, 1.00000000, 1.00000000, 1.00000000,
+    ],
+    [
+        1.09330756, 0.82283497, 0.83008611, 0.91884152, 0.98863140, 0.99929709, 1.02952338,
+        1.03804137, 1.01706013, 1.01167829, 1.01613454, 1.02907269, 1.03903550, 1.01683951,
+        0.98966821, 0.98175867, 0.98936190, 1.02742924, 1.03887273, 1.04408989, 1.04965008,
+        1.03288924, 1.01529653, 0.99038672, 1.02531015, 1.02002558, 1.04102769, 0.99527514,
+        0.83526745, 0.81144426, 1.05536789, 1.63472715,
+    ],
+    [
+        0.91209361, 0.94250347, 0.99888706, 1.02097301, 1.01384441, 1.01338901, 1.00833940,
+        1.00595227, 1.00686148, 1.00283746, 1.00495545, 1.01693755, 1.02628255, 0.99278781,
+        0.97194577, 0.98594703, 0.99127781, 1.04047916, 1.04668138, 1.04619147, 1.04717928,
+        1.03226866, 1.02158493, 0.99095460, 1.03283741, 1.03252721, 1.04036051, 1.08427591,
+        0.94379028, 0.93381396, 1.39023005, 2.55917735,
+    ],
+];
 
 // The gain of low and band together, over cutoff and resonance.
 pub const FILTER_LOW_BAND_GAIN_ZERO_CUTOFF: f32 = 1.378;
@@ -690,38 +429,36 @@ pub fn feedback_drives() -> [f32; 16]
     ]
 }
 
+// Entry i of row m of a table, and NaN past the table.
+fn entry<const N: usize>(table: &[[f32; N]; 3], m: usize, i: usize) -> f32
+    ensures { result ≡ row_entry table.now m i }
+{
+    match table.get(m) {
+        Some(row) => row.get(i).copied().unwrap_or(f32::NAN),
+        None => f32::NAN,
+    }
+}
+
 // Entry i, 0 to 31, of a mode's load over the cutoff, and NaN past the table. Modes are 0 low, 1 band, 2 high.
+#[tactic(auto, unfolding(crate::specs::Tables::single_mode_cutoff_gain_of))]
 pub fn single_mode_cutoff_gain(mode_index: usize, i: usize) -> f32
     ensures { result ≡ single_mode_cutoff_gain_of mode_index i }
 {
-    match mode_index {
-        0 => single_mode_cutoff_gain_low(i),
-        1 => single_mode_cutoff_gain_band(i),
-        2 => single_mode_cutoff_gain_high(i),
-        _ => 0.0 / 0.0,
-    }
+    entry(&FILTER_SINGLE_MODE_CUTOFF_GAIN, mode_index, i)
 }
 
 // The same over the resonance, 0 to 15.
+#[tactic(auto, unfolding(crate::specs::Tables::single_mode_resonance_gain_of))]
 pub fn single_mode_resonance_gain(mode_index: usize, resonance: usize) -> f32
     ensures { result ≡ single_mode_resonance_gain_of mode_index resonance }
 {
-    match mode_index {
-        0 => single_mode_resonance_gain_low(resonance),
-        1 => single_mode_resonance_gain_band(resonance),
-        2 => single_mode_resonance_gain_high(resonance),
-        _ => 0.0 / 0.0,
-    }
+    entry(&FILTER_SINGLE_MODE_RESONANCE_GAIN, mode_index, resonance)
 }
 
 // The gain that does not depend on the direction of the step: i is 0 to 31.
+#[tactic(auto, unfolding(crate::specs::Tables::symmetric_loading_gain_of))]
 pub fn symmetric_loading_gain(mode_index: usize, i: usize) -> f32
     ensures { result ≡ symmetric_loading_gain_of mode_index i }
 {
-    match mode_index {
-        0 => symmetric_loading_gain_low(i),
-        1 => symmetric_loading_gain_band(i),
-        2 => symmetric_loading_gain_high(i),
-        _ => 0.0 / 0.0,
-    }
+    entry(&FILTER_SYMMETRIC_LOADING_GAIN, mode_index, i)
 }

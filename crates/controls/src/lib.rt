@@ -9,7 +9,7 @@ use control::FilterRegisters;
 
 // What `refresh_filter_controls` works out at the effective cutoff and the resonance.
 #[repr(C)]
-#[derive(Clone, Copy)]
+#[derive(Clone, Copy, Debug, PartialEq)]
 pub struct FilterControls {
     pub effective_cutoff_index: usize,
     pub integrator_gain: [f32; 16],
@@ -28,7 +28,7 @@ pub struct FilterControls {
 
 // What `refresh_register_output_state` works out.
 #[repr(C)]
-#[derive(Clone, Copy)]
+#[derive(Clone, Copy, Debug, PartialEq)]
 pub struct OutputControls {
     pub filter_common_mode: f32,
     pub volume_fraction: f32,
@@ -41,7 +41,7 @@ pub struct OutputControls {
 
 // The Rust's `ControlCache`, its fields grouped by the call that works them out.
 #[repr(C)]
-#[derive(Clone, Copy)]
+#[derive(Clone, Copy, Debug, PartialEq)]
 pub struct ControlCache {
     pub filter: FilterControls,
     pub mode_output_gain: f32,
@@ -102,6 +102,7 @@ pub fn resonance_output_gain(r: f32) -> f32
 // ---- refresh_register_output_state
 
 // What the output stage takes from the registers alone.
+#[tactic(auto, unfolding(crate::specs::Controls::refresh_register_output_state_of))]
 pub fn refresh_register_output_state(r: FilterRegisters) -> OutputControls
     ensures { result ≡ C.refresh_register_output_state_of r }
 {
@@ -122,19 +123,19 @@ pub fn refresh_register_output_state(r: FilterRegisters) -> OutputControls
 
 // ---- the finite domain
 
+// With no way out of the loop, as `all` has one: a number costs no branch.
 fn all_finite(values: &[f32]) -> bool
     ensures { result ≡ J.all_finite values.now }
 {
     let mut all = true;
-    let mut i = 0;
-    while i < values.len() {
-        all = all & floats::is_finite(values[i]);
-        i += 1;
+    for &x in values {
+        all = all & floats::is_finite(x);
     }
     all
 }
 
 // The numbers of refresh_register_output_state.
+#[tactic(auto, unfolding(crate::specs::Judging::finite_output_of))]
 pub fn finite_output(o: OutputControls) -> bool
     ensures { result ≡ J.finite_output_of o }
 {
@@ -150,12 +151,10 @@ pub fn finite_output(o: OutputControls) -> bool
 }
 
 // The numbers of refresh_filter_controls.
+#[tactic(auto, unfolding(crate::specs::Judging::finite_filter_of))]
 pub fn finite_filter(f: FilterControls) -> bool
     ensures { result ≡ J.finite_filter_of f }
 {
-    let gain = f.integrator_gain;
-    let input = f.input_drive;
-    let feedback = f.feedback_drive;
     let values = [
         f.damping,
         f.source_gain_modulation,
@@ -166,13 +165,15 @@ pub fn finite_filter(f: FilterControls) -> bool
         f.source_modulation_resonance_scale,
         f.resonance_output_gain,
     ];
-    all_finite(&gain) & all_finite(&input) & all_finite(&feedback) & all_finite(&values)
+    all_finite(&f.integrator_gain)
+        & all_finite(&f.input_drive)
+        & all_finite(&f.feedback_drive)
+        & all_finite(&values)
 }
 
+#[tactic(auto, unfolding(crate::specs::Judging::finite_controls_of))]
 pub fn finite_controls(c: ControlCache) -> bool
     ensures { result ≡ J.finite_controls_of c }
 {
-    let filter = c.filter;
-    let output = c.output;
-    finite_filter(filter) & floats::is_finite(c.mode_output_gain) & finite_output(output)
+    finite_filter(c.filter) & floats::is_finite(c.mode_output_gain) & finite_output(c.output)
 }

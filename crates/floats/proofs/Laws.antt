@@ -1,10 +1,8 @@
 -- Laws of the float helpers, over the format where a fact is wanted at both. Assumes nothing.
-use Rattle.std.proofs.Common.{◌≡◌, ℕ, zero, suc, ◌+◌, ◌-◌, ◌*◌, ◌/◌, ◌%◌, ◌^◌, ◌<◌, ◌≤◌, min, Bool, true, false, cond, not, ◌&&◌, T, eqb, ltb, ℤ, pos, ◌-ℤ◌, neg_ℤ, sym, refl, ap, ◌∙◌, subst, true≢false, le_trans, le_of_eq, lt_of_lt_of_le, lt_of_le_of_lt, lt_irrefl, mod-lt, mod-eq_of_lt, mul_comm, div-lt_iff_lt-mul, le-div_iff_mul-le, zero-mul, div-le_self, arith, lit<, pow_pos, pow-add, w16, SFits, to_z, of_z, ltb-false, ltb-true, ne_eqb}
-use native.Mathlib.Nat.{zero-div, add-mod_left, mul-div-mul_right, le-suc}
+use Rattle.std.proofs.Common.{◌≡◌, ℕ, zero, suc, ◌+◌, ◌-◌, ◌*◌, ◌/◌, ◌%◌, ◌^◌, ◌<◌, ◌≤◌, min, Bool, true, false, cond, not, ◌&&◌, T, eqb, ℤ, pos, sym, refl, ap, ◌∙◌, subst, true≢false, le_trans, le_of_eq, lt_of_lt_of_le, lt_of_le_of_lt, lt_irrefl, mod-lt, mod-eq_of_lt, mul_comm, div-lt_iff_lt-mul, le-div_iff_mul-le, div-le_self, arith, lit<, pow_pos, pow-add, ltb-false, ne_eqb}
+use native.Mathlib.Nat.{add-mod_left, mul-div-mul_right, le-suc}
 use borrow.Author.Tests.{lt-leb}
-use lib.IntN.{+ℤ_idl}
-use mir.ValLaws.{to_z_pos, to_z-of_z}
-use lib.Ieee.{Float, nan, inf, fin, Format, binary32, binary64, prec, low, hid, ones, top, up, down, lt, eq, ne, neg, of_fields, of_bits, to_bits, fits, is_nan, nan_bits, to_unsigned, to_signed, of_int}
+use lib.Ieee.{Float, nan, inf, fin, Format, binary32, binary64, prec, low, hid, ones, top, up, down, lt, eq, ne, neg, of_fields, of_bits, to_bits, fits, is_nan, nan_bits, to_unsigned, of_int}
 use lib.Ieee.Scale.{finite}
 use lib.Ieee.Bits.{of_bits-to_bits, to_bits-lt, nan_bits_is, is_true}
 use lib.Ieee.Digits.{back}
@@ -178,58 +176,7 @@ cast_above (fin false m e) g h =
     let q : 18446744073709551616 ≤ m * up e / down e = (le-div_iff_mul-le (down_pos e)).1 (omega (arith, ltb-false (m * up e * 1) (18446744073709551616 * down e) h)) in
     omega arith
 
--- ---- the cast to i16, from the whole part of the magnitude
-
-signed_whole : (x : Float) → to_signed 15 x ≡ cond (lt x (of_bits binary32 0)) (neg_ℤ (pos (min (to_unsigned 64 (abs_of x)) 32768))) (pos (min (to_unsigned 64 (abs_of x)) 32767))
-unfolding lt of_bits to_signed to_unsigned abs_of
-signed_whole nan = refl
-signed_whole (inf true) = refl
-signed_whole (inf false) = refl
-signed_whole (fin true m e) = go (ltb 0 (m * up e * 1 + 0 * down e)) refl
-  where
-    q : ℕ
-    q = m * up e / down e
-
-    go : (b : Bool) → ltb 0 (m * up e * 1 + 0 * down e) ≡ b
-        → neg_ℤ (pos (min q 32768)) ≡ cond b (neg_ℤ (pos (min (min q 18446744073709551615) 32768))) (pos (min (min q 18446744073709551615) 32767))
-    go true h = let same : min q 32768 ≡ min (min q 18446744073709551615) 32768 = omega arith in rw same
-    go false h =
-        let none : m * up e ≡ 0 = omega (arith, ltb-false 0 (m * up e * 1 + 0 * down e) h) in
-        rw (none, zero-div)
-signed_whole (fin false m e) = go (ltb (m * up e * 1) (0 * down e)) refl
-  where
-    q : ℕ
-    q = m * up e / down e
-
-    go : (b : Bool) → ltb (m * up e * 1) (0 * down e) ≡ b
-        → pos (min q 32767) ≡ cond b (neg_ℤ (pos (min (min q 18446744073709551615) 32768))) (pos (min (min q 18446744073709551615) 32767))
-    go true h = absurd (omega (arith, ltb-true (m * up e * 1) (0 * down e) h, zero-mul (down e)))
-    go false h = let same : min q 32767 ≡ min (min q 18446744073709551615) 32767 = omega arith in rw same
-
--- a is the magnitude, and n its whole part
-pub signed_at : (x : Float) {a : Float} {n : ℕ} {b : Bool} → a ≡ abs_of x → n ≡ to_unsigned 64 a → lt x (of_bits binary32 0) ≡ b → cond b (neg_ℤ (pos (min n 32768))) (pos (min n 32767)) ≡ to_signed 15 x
-signed_at x p q h = rw (q, p, ← h) (sym (signed_whole x))
-
--- a number below 2^15 with a minus in front
-module _ (n : ℕ) (h : n < 32768) where
-  minus : pos 0 -ℤ to_z w16 n ≡ neg_ℤ (pos n)
-  minus = ap (λ (z : ℤ). pos 0 -ℤ z) (to_z_pos w16 n h) ∙ +ℤ_idl (neg_ℤ (pos n))
-
-  pub minus_fits : SFits w16 (pos 0 -ℤ to_z w16 n)
-  minus_fits = rw minus (small n h)
-    where
-      small : (k : ℕ) → k < 32768 → SFits w16 (neg_ℤ (pos k))
-      small zero l = record { sfits = lit< tt }
-      small (suc k) l = record { sfits = omega arith }
-
-  pub minus_back : to_z w16 (of_z w16 (pos 0 -ℤ to_z w16 n)) ≡ neg_ℤ (pos n)
-  minus_back = to_z-of_z w16 (pos 0 -ℤ to_z w16 n) minus_fits ∙ minus
-
 -- ---- from an index
-
-pub small_top : of_bits binary32 0x4b80_0000 ≡ of_int binary32 (pos 16777216)
-unfolding of_bits of_int
-small_top = refl
 
 pub small_exact : {n : ℕ} → n ≤ 16777216 → of_small n ≡ of_int binary32 (pos n)
 small_exact {n} h = ap (λ (k : ℕ). of_int binary32 (pos k)) (omega arith)

@@ -1,6 +1,6 @@
 pub mod Formats
 pub mod Laws
-pub mod Narrowing
+pub mod Library
 pub mod Range
 pub mod Rounding
 pub mod Sized

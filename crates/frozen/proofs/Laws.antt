@@ -1,13 +1,21 @@
--- The loop over the rows. Assumes nothing.
+-- A flag as a float, and the loop over the rows. Assumes nothing.
 use Prim.Native.Nat.{ℕ, ◌+◌, ◌≤◌, ◌<◌}
 use mathlib.Core.Path.{◌≡◌, refl}
 use mathlib.Core.List.{List, []}
 use native.Mathlib.Numerals.{add-one}
 use lib.ListN.{length, get_or, drop, drop_of_length-le}
 use lib.Seq.{drop-cons}
-use lib.Ieee.{Float, nan}
+use mathlib.Core.Bool.{Bool, true, false}
+use lib.IntN.{pos}
+use lib.Ieee.{Float, nan, binary32, of_bits, of_int}
+use Rattle.std.specs.Int.{from_bool}
 use Rattle.floats.specs.Arithmetic.{◌⊕◌, ◌⊗◌}
-use Rattle.frozen.specs.Frozen.{polynomial_of, weighted_sum_of}
+use Rattle.frozen.specs.Frozen.{unit_of, polynomial_of, weighted_sum_of}
+
+pub from_bool_unit : (on : Bool) → of_int binary32 (pos (from_bool on)) ≡ unit_of on
+unfolding of_int of_bits
+from_bool_unit true = refl
+from_bool_unit false = refl
 
 module _ (x : Float) (rows : List (List Float)) (terms : List Float) where
   -- the row at i and its term come next

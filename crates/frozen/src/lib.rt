@@ -15,12 +15,11 @@ fn stands(signal: VoiceSignal) -> bool
 }
 
 // Whether the output is at the operating point: the registers are in bias mode, and each voice stands.
+#[tactic(auto, unfolding(crate::specs::Frozen::configured_of))]
 pub fn configured(frozen_dac_bias_mode: bool, voices: Voices) -> bool
     ensures { result ≡ F.configured_of frozen_dac_bias_mode voices }
 {
-    let one = voices.one;
-    let two = voices.two;
-    let three = voices.three;
+    let Voices { one, two, three } = voices;
     frozen_dac_bias_mode & (stands(one) & stands(two) & stands(three))
 }
 
@@ -34,23 +33,25 @@ fn volume_position(volume: u8) -> f32
 fn unit(on: bool) -> f32
     ensures { result ≡ F.unit_of on }
 {
-    if on { 1.0 } else { 0.0 }
+    f32::from(on)
 }
 
 fn polynomial(row: [f32; 3], x: f32) -> f32
     ensures { result ≡ F.polynomial_of row x }
 {
-    row[0] + x * (row[1] + x * row[2])
+    let [a, b, c] = row;
+    a + x * (b + x * c)
 }
 
 // What each row is weighed with: 1, the mode's bits, and each pair of them multiplied.
+#[tactic(auto, unfolding(crate::specs::Frozen::terms_of))]
 fn terms(mode: u8) -> [f32; 11]
     ensures { result ≡ F.terms_of mode }
 {
-    let b0 = unit(mode / 1 % 2 == 1);
-    let b1 = unit(mode / 2 % 2 == 1);
-    let b2 = unit(mode / 4 % 2 == 1);
-    let b3 = unit(mode / 8 % 2 == 1);
+    let b0 = unit(response::bit(mode, 0));
+    let b1 = unit(response::bit(mode, 1));
+    let b2 = unit(response::bit(mode, 2));
+    let b3 = unit(response::bit(mode, 3));
     [
         1.0,
         b0,
@@ -66,7 +67,8 @@ fn terms(mode: u8) -> [f32; 11]
     ]
 }
 
-// The point: a polynomial in the volume for each term in the mode's bits. An iterator's sum starts from -0.0.
+// The point: a polynomial in the volume for each term in the mode's bits. An iterator's sum starts from -0.0. By index, since the check
+// finds no proof of a `zip`, a `map` and a `sum`.
 pub fn frozen_dac_operating_point(mode: u8, volume: u8) -> f32
     ensures { result ≡ F.frozen_dac_operating_point_of mode volume }
 {
@@ -74,10 +76,8 @@ pub fn frozen_dac_operating_point(mode: u8, volume: u8) -> f32
     let terms = terms(mode);
     let x = volume_position(volume);
     let mut sum = -0.0f32;
-    let mut i = 0;
-    while i < 11 {
+    for i in 0..11 {
         sum += terms[i] * polynomial(rows[i], x);
-        i += 1;
     }
     sum
 }

@@ -60,11 +60,7 @@ pub row_count : (routing : ℕ) {row : List Bool} → row ≡ filter_flags_of ro
 unfolding filter_count_of
 row_count routing e = rw (e, flags_are_bits routing) refl
 
--- what an arm of `filter_flags` gives; the last one is of no other nibble
-pub row_at : (routing n : ℕ) → routing % 16 ≡ n → get_or filter_rows n [] ≡ filter_flags_of routing
-unfolding filter_flags_of
-row_at routing n e = rw e refl
-
+-- what the last arm of `filter_flags` knows, which is of no other nibble
 pub last_row : (routing : ℕ) → NoneOf 15 (routing % 16) → routing % 16 ≡ 15
 last_row routing others =
     let least = none_of_past 15 (routing % 16) others in

@@ -1,14 +1,14 @@
 // The routing of sources into the filter's summer and past it to the mixer.
 #![tactic(auto)]
 
-ghost use Rattle.std.specs.Prelude.{◌≡◌, ◌+◌, ◌*◌, ◌/◌, ◌%◌, ◌<◌, ◌≤◌, eqb};
+ghost use Rattle.std.specs.Prelude.{◌≡◌, ◌+◌, ◌*◌, ◌≤◌};
 ghost use Rattle.mixing.specs.Topology.{one as one_of, filter_count_of, reciprocal_of, topology_of};
 ghost use Rattle.mixing.specs.Routing.{filter_flags_of};
 ghost use Rattle.mixing.specs.Line.{digit as digit_of, flag as flag_of, line_of};
 
 // Flags for voices 1 to 3 and the external input; what is worked out from them, so that a sample need not.
 #[repr(C)]
-#[derive(Clone, Copy)]
+#[derive(Clone, Copy, Debug, PartialEq)]
 pub struct MixingTopology {
     pub filter_membership: [bool; 4],
     pub bypass_membership: [bool; 4],
@@ -23,14 +23,6 @@ pub struct MixingTopology {
     pub bypass_internal_mask: u8,
 }
 
-// The bit of this weight is set.
-fn bit(n: u8, weight: u8) -> bool
-    requires { 0 < weight }
-    ensures { result ≡ eqb (n / weight % 2) 1 }
-{
-    n / weight % 2 == 1
-}
-
 // Through the filter, the data sheet's 1.
 const I: bool = true;
 
@@ -40,6 +32,7 @@ const O: bool = false;
 // The inputs that a routing sends through the filter, to be laid beside the data sheet's register 23, RES/FILT. A nibble is as the
 // sheet prints it, bit 3 on the left: FILTEX, FILT 3, FILT 2, FILT 1. Its row has the same bits the other way round, from bit 0 on:
 // voice 1, voice 2, voice 3, external input. Of a larger byte the low nibble counts.
+#[tactic(auto, using(crate::proofs::Routing::last_row), unfolding(crate::specs::Routing::filter_flags_of))]
 fn filter_flags(routing: u8) -> [bool; 4]
     ensures { result ≡ filter_flags_of routing }
 {
@@ -63,41 +56,37 @@ fn filter_flags(routing: u8) -> [bool; 4]
     }
 }
 
-fn one(b: bool) -> usize
-    ensures { (result ≡ one_of b) × (result ≤ 1) }
-{
-    if b { 1 } else { 0 }
-}
-
 fn count(a: bool, b: bool, c: bool, d: bool) -> usize
     ensures { (result ≡ one_of a + one_of b + one_of c + one_of d) × (result ≤ 4) }
 {
-    one(a) + one(b) + one(c) + one(d)
+    usize::from(a) + usize::from(b) + usize::from(c) + usize::from(d)
 }
 
 // How many inputs a routing sends through the filter, without the rest of its topology.
 pub fn filter_count(routing: u8) -> usize
     ensures { result ≡ filter_count_of routing }
 {
-    let row = filter_flags(routing);
-    count(row[0], row[1], row[2], row[3])
+    let [a, b, c, d] = filter_flags(routing);
+    count(a, b, c, d)
 }
 
 fn mask(a: bool, b: bool, c: bool) -> u8
     ensures { result ≡ one_of a + 2 * one_of b + 4 * one_of c }
 {
-    (one(a) + 2 * one(b) + 4 * one(c)) as u8
+    u8::from(a) + 2 * u8::from(b) + 4 * u8::from(c)
 }
 
 // 1.0 / count, and 0.0 for no input.
+#[tactic(auto, using(floats::proofs::Laws::small_exact), unfolding(crate::specs::Topology::reciprocal_of))]
 fn reciprocal(count: usize) -> f32
     requires { count ≤ 16 }
     ensures { result ≡ reciprocal_of count }
 {
     if count == 0 {
-        return 0.0;
+        0.0
+    } else {
+        1.0 / floats::of_usize(count)
     }
-    1.0 / floats::of_usize(count)
 }
 
 impl MixingTopology {
@@ -106,18 +95,19 @@ impl MixingTopology {
     pub fn update(routing: u8, mode: u8) -> Self
         ensures { result ≡ topology_of routing mode }
     {
-        let row = filter_flags(routing);
-        let f0 = row[0];
-        let f1 = row[1];
-        let f2 = row[2];
-        let f3 = row[3];
-        let voice_three_off = bit(mode, 8);
+        let [f0, f1, f2, f3] = filter_flags(routing);
+        let voice_three_off = response::bit(mode, 3);
         let b2 = !f2 & !voice_three_off;
         let filter_membership = [f0, f1, f2, f3];
         let bypass_membership = [!f0, !f1, b2, !f3];
         let filter_input_count = count(f0, f1, f2, f3);
         let bypass_input_count = count(!f0, !f1, b2, !f3);
-        let filter_output_count = count(bit(mode, 1), bit(mode, 2), bit(mode, 4), false);
+        let filter_output_count = count(
+            response::bit(mode, 0),
+            response::bit(mode, 1),
+            response::bit(mode, 2),
+            false,
+        );
         let mixer_input_count = bypass_input_count + filter_output_count;
         MixingTopology {
             filter_membership,
@@ -141,13 +131,13 @@ fn digit(n: usize) -> u8
     requires { n ≤ 9 }
     ensures { result ≡ digit_of n }
 {
-    48 + (n as u8)
+    b'0' + n as u8
 }
 
 fn flag(b: bool) -> u8
     ensures { result ≡ flag_of b }
 {
-    digit(one(b))
+    digit(usize::from(b))
 }
 
 // The topology of a routing and a mode nibble as a line of text.
@@ -157,45 +147,18 @@ pub fn line(routing: u8, mode: u8) -> [u8; 39]
     let t = MixingTopology::update(routing, mode);
     let f = t.filter_membership;
     let b = t.bypass_membership;
-    [
-        b'f',
-        b'i',
-        b'l',
-        b't',
-        b'e',
-        b'r',
-        b' ',
-        flag(f[0]),
-        flag(f[1]),
-        flag(f[2]),
-        flag(f[3]),
-        b' ',
-        b'b',
-        b'y',
-        b'p',
-        b'a',
-        b's',
-        b's',
-        b' ',
-        flag(b[0]),
-        flag(b[1]),
-        flag(b[2]),
-        flag(b[3]),
-        b' ',
-        b'c',
-        b'o',
-        b'u',
-        b'n',
-        b't',
-        b's',
-        b' ',
-        digit(t.filter_input_count),
-        b' ',
-        digit(t.bypass_input_count),
-        b' ',
-        digit(t.filter_output_count),
-        b' ',
-        digit(t.mixer_input_count),
-        b'\n',
-    ]
+    let mut line = *b"filter .... bypass .... counts . . . .\n";
+    line[7] = flag(f[0]);
+    line[8] = flag(f[1]);
+    line[9] = flag(f[2]);
+    line[10] = flag(f[3]);
+    line[19] = flag(b[0]);
+    line[20] = flag(b[1]);
+    line[21] = flag(b[2]);
+    line[22] = flag(b[3]);
+    line[31] = digit(t.filter_input_count);
+    line[33] = digit(t.bypass_input_count);
+    line[35] = digit(t.filter_output_count);
+    line[37] = digit(t.mixer_input_count);
+    line
 }

@@ -1,11 +1,12 @@
 // The stateless laws of the analogue response: what follows from registers and levels alone.
 #![tactic(auto)]
 
-ghost use Rattle.std.specs.Prelude.{◌≡◌, ◌+◌, min, not, T, pos};
+ghost use Rattle.std.specs.Prelude.{◌≡◌, ◌+◌, ◌<◌, ℕ, Float, min, not, T, pos};
 ghost use Rattle.std.specs.Float.{binary32};
 ghost use Rattle.std.specs.Float.Ieee.{is_nan, of_int, to_unsigned};
 ghost use Rattle.floats.specs.Arithmetic.{f32};
 ghost use Rattle.floats.specs.Floats.{abs_of, clamp_of};
+ghost use Rattle.response.specs.Bits.{bit as bit_of};
 ghost use Rattle.response.specs.Levels.{analogue_span_of, normalise_voltage_of, filter_mode_quiescent_level_of, add_if, branch_sum_of, volume_dac_conductance_code_of, interpolate_of};
 ghost use Rattle.response.specs.Levels.{cutoff_position_of, filter_output_common_mode_of};
 ghost use Rattle.response.specs.Position.{table_position_of, activity_of, operating_position_of, loading_position_of};
@@ -20,6 +21,7 @@ pub fn analogue_span() -> f32
 }
 
 // A voltage in the operating window, as 0 to 1.
+#[tactic(auto, unfolding(crate::specs::Levels::normalise_voltage_of))]
 pub fn normalise_voltage(voltage: f32) -> f32
     ensures { result ≡ normalise_voltage_of voltage }
 {
@@ -31,10 +33,19 @@ pub fn normalise_voltage(voltage: f32) -> f32
 }
 
 // The level of the filter's amplifiers at rest.
+#[tactic(auto, unfolding(crate::specs::Levels::filter_mode_quiescent_level_of))]
 pub fn filter_mode_quiescent_level() -> f32
     ensures { result ≡ filter_mode_quiescent_level_of }
 {
     normalise_voltage(constants::SID_ANALOGUE_QUIESCENT_VOLTS)
+}
+
+// Bit i of a register's byte is set.
+pub fn bit(n: u8, i: u32) -> bool
+    requires { i < 8 }
+    ensures { result ≡ bit_of n i }
+{
+    n >> i & 1 == 1
 }
 
 fn add_if(on: bool, sum: f32, x: f32) -> f32
@@ -50,18 +61,20 @@ pub fn interpolate(lower: f32, upper: f32, fraction: f32) -> f32
     lower + (upper - lower) * fraction
 }
 
-// The branches of the volume DAC that are on.
+// The branches of the volume DAC that are on, step by step: a loop would want a definition of its partial sum.
+#[tactic(auto, unfolding(crate::specs::Levels::branch_sum_of))]
 fn branch_sum(volume: u8) -> f32
     ensures { result ≡ branch_sum_of volume }
 {
     let weights = constants::volume_dac_branch_weights();
-    let one = add_if(volume / 1 % 2 == 1, 0.0, weights[0]);
-    let two = add_if(volume / 2 % 2 == 1, one, weights[1]);
-    let three = add_if(volume / 4 % 2 == 1, two, weights[2]);
-    add_if(volume / 8 % 2 == 1, three, weights[3])
+    let one = add_if(bit(volume, 0), 0.0, weights[0]);
+    let two = add_if(bit(volume, 1), one, weights[1]);
+    let three = add_if(bit(volume, 2), two, weights[2]);
+    add_if(bit(volume, 3), three, weights[3])
 }
 
 // The volume DAC's conductance for a code; of a number above 15 the lower four bits count.
+#[tactic(auto, unfolding(crate::specs::Levels::volume_dac_conductance_code_of))]
 pub fn volume_dac_conductance_code(volume: u8) -> f32
     ensures { result ≡ volume_dac_conductance_code_of volume }
 {
@@ -77,6 +90,7 @@ fn cutoff_position(cutoff: u16) -> f32
 }
 
 // The operating point that the selected outputs give the output node.
+#[tactic(auto, unfolding(crate::specs::Levels::filter_output_common_mode_of))]
 pub fn filter_output_common_mode(mode: u8, cutoff: u16) -> f32
     ensures { result ≡ filter_output_common_mode_of mode cutoff }
 {
@@ -96,40 +110,42 @@ pub fn filter_output_common_mode(mode: u8, cutoff: u16) -> f32
         constants::FILTER_HIGHPASS_COMMON_MODE_FC_2047,
         position,
     );
-    let one = add_if(mode / 1 % 2 == 1, 0.0, low);
-    let two = add_if(mode / 2 % 2 == 1, one, band);
-    add_if(mode / 4 % 2 == 1, two, high)
+    let one = add_if(bit(mode, 0), 0.0, low);
+    let two = add_if(bit(mode, 1), one, band);
+    add_if(bit(mode, 2), two, high)
 }
 
 // ---- positions
 
 // The two entries of a table that a position lies between, and how far it lies from the lower one.
 #[repr(C)]
-#[derive(Clone, Copy)]
+#[derive(Clone, Copy, Debug, PartialEq)]
 pub struct TablePosition {
     pub lower: usize,
     pub upper: usize,
     pub fraction: f32,
 }
 
+// The sum may not fit where there is no next one, and the library's `saturating_add` and `min` select twice.
 fn next_index(lower: usize, last: usize) -> usize
     ensures { result ≡ min (lower + 1) last }
 {
     if lower < last { lower + 1 } else { last }
 }
 
-// A position's whole part as a float, which is exact: from 2^24 on every f32 is whole, and an index stops below 2^64.
+// A position's whole part as a float, which is exact: from 2^24 on every f32 is whole, and an index stops below 2^64. The library's conversion
+// of any usize rounds, in steps that a sample need not pay for.
 fn whole_part(position: f32, lower: usize) -> f32
     requires { lower ≡ to_unsigned 64 position }
     ensures { result ≡ of_int binary32 (pos lower) }
 {
     if lower < 0x100_0000 {
-        return lower as f32;
+        lower as f32
+    } else if position < 18446744073709551616.0 {
+        position
+    } else {
+        18446744073709551616.0
     }
-    if position < 18446744073709551616.0 {
-        return position;
-    }
-    18446744073709551616.0
 }
 
 // Between which two entries of a table a position lies, whatever it is.
@@ -144,6 +160,7 @@ pub fn table_position(last: usize, position: f32) -> TablePosition
     }
 }
 
+#[tactic(auto, unfolding(crate::specs::Position::activity_of))]
 fn activity(input: f32, band: f32, low: f32) -> f32
     ensures { result ≡ activity_of input band low }
 {
@@ -155,6 +172,7 @@ fn activity(input: f32, band: f32, low: f32) -> f32
 }
 
 // The operating bins that the input and the two capacitors stand between: the lower is at most 15.
+#[tactic(auto, unfolding(crate::specs::Position::operating_position_of))]
 pub fn operating_position(input: f32, band: f32, low: f32) -> TablePosition
     ensures { result ≡ operating_position_of input band low }
 {
@@ -170,6 +188,7 @@ fn magnitude(x: f32) -> f32
 }
 
 // The activity before it is clamped, of capacitors that are no NaNs.
+#[tactic(auto, unfolding(crate::specs::Position::activity_of))]
 fn plain_activity(input: f32, band: f32, low: f32) -> f32
     requires { T (not (is_nan band)) × T (not (is_nan low)) }
     ensures { clamp_of result (f32 0) (f32 0x3f80_0000) ≡ activity_of input band low }
@@ -178,6 +197,7 @@ fn plain_activity(input: f32, band: f32, low: f32) -> f32
 }
 
 // The lower bin alone, as a guess from capacitors that are there early: `operating_position_near` tests it.
+#[tactic(auto, unfolding(crate::specs::Position::operating_position_of))]
 pub fn guessed_bin(input: f32, band: f32, low: f32) -> usize
     ensures { result ≡ (operating_position_of input band low).lower }
 {
@@ -188,12 +208,13 @@ pub fn guessed_bin(input: f32, band: f32, low: f32) -> usize
 fn bin_near(position: f32, guess: usize) -> usize
     ensures { result ≡ to_unsigned 64 position }
 {
-    if guess < 15 {
-        if (floats::of_usize(guess) <= position) & (position < floats::of_usize(guess + 1)) {
-            return guess;
-        }
+    if guess < 15
+        && (floats::of_usize(guess) <= position) & (position < floats::of_usize(guess + 1))
+    {
+        guess
+    } else {
+        floats::as_usize(position)
     }
-    floats::as_usize(position)
 }
 
 // `operating_position`, with a guess of its lower bin. Where it lies below the last bin nothing is clamped.
@@ -216,6 +237,7 @@ pub fn operating_position_near(input: f32, band: f32, low: f32, guess: usize) ->
 }
 
 // The entries of a loading table that a cutoff lies between; up to 2,047 the lower is at most 31.
+#[tactic(auto, unfolding(crate::specs::Position::loading_position_of))]
 pub fn loading_position(cutoff: u16) -> TablePosition
     ensures { result ≡ loading_position_of cutoff }
 {
@@ -277,6 +299,7 @@ fn high_gain(r: f32, p: f32) -> f32
 }
 
 // By the mode's lower three bits: 1 low, 2 band, 3 low and band, 4 high.
+#[tactic(auto, unfolding(crate::specs::Gain::base_gain_of))]
 fn base_gain(m: u8, r: f32, p: f32) -> f32
     ensures { result ≡ G.base_gain_of m r p }
 {
@@ -289,35 +312,38 @@ fn base_gain(m: u8, r: f32, p: f32) -> f32
     }
 }
 
+#[tactic(auto, unfolding(crate::specs::Gain::low_band_lift_of))]
 fn low_band_lift(m: u8, resonance: u8) -> f32
     ensures { result ≡ G.low_band_lift_of m resonance }
 {
     if m == 3 {
         let low = low_resonance_position(resonance);
-        return 1.0 + constants::FILTER_LOW_BAND_LOW_RESONANCE_LIFT * low * low;
+        1.0 + constants::FILTER_LOW_BAND_LOW_RESONANCE_LIFT * low * low
+    } else {
+        1.0
     }
-    1.0
 }
 
+#[tactic(auto, unfolding(crate::specs::Gain::bandpass_trim_of))]
 fn bandpass_trim(m: u8, p: f32) -> f32
     ensures { result ≡ G.bandpass_trim_of m p }
 {
     if m == 2 {
-        return constants::FILTER_BANDPASS_GAIN_TRIM_ZERO
-            - constants::FILTER_BANDPASS_GAIN_TRIM_CUTOFF_SLOPE * p;
+        constants::FILTER_BANDPASS_GAIN_TRIM_ZERO
+            - constants::FILTER_BANDPASS_GAIN_TRIM_CUTOFF_SLOPE * p
+    } else {
+        1.0
     }
-    1.0
 }
 
+#[tactic(auto, unfolding(crate::specs::Gain::highpass_loading_of))]
 fn highpass_loading(m: u8, loading: f32) -> f32
     ensures { result ≡ G.highpass_loading_of m loading }
 {
-    if m == 4 {
-        return loading;
-    }
-    1.0
+    if m == 4 { loading } else { 1.0 }
 }
 
+#[tactic(auto, unfolding(crate::specs::Gain::highpass_resonance_trim_of))]
 fn highpass_resonance_trim(m: u8, resonance: u8, p: f32) -> f32
     ensures { result ≡ G.highpass_resonance_trim_of m resonance p }
 {
@@ -329,9 +355,10 @@ fn highpass_resonance_trim(m: u8, resonance: u8, p: f32) -> f32
                     + centred
                         * (constants::FILTER_HIGHPASS_RESONANCE_TRIM_C2
                             + centred * constants::FILTER_HIGHPASS_RESONANCE_TRIM_C3));
-        return 1.0 + p * curve;
+        1.0 + p * curve
+    } else {
+        1.0
     }
-    1.0
 }
 
 // Whether the mode's lower three bits select just one output.
@@ -352,21 +379,30 @@ pub fn mode_index(m: u8) -> u8
     }
 }
 
+// A row of a loading table at a cutoff, between its entries. The table is a function of a row and an entry.
+fn loading<F: Fn(usize, usize) -> f32>(table: F, row: usize, cutoff: u16) -> f32
+    requires { F.IsAlwaysCallable table }
+    ensures { (g : ℕ → ℕ → Float) → ((m i : ℕ) (x : Float) → F.post table m i x → x ≡ g m i) → result ≡ G.loading_of g row cutoff }
+{
+    let at = loading_position(cutoff);
+    interpolate(table(row, at.lower), table(row, at.upper), at.fraction)
+}
+
+#[tactic(auto, unfolding(crate::specs::Gain::single_mode_loading_of))]
 fn single_mode_loading(m: u8, resonance: u8, cutoff: u16) -> f32
     ensures { result ≡ G.single_mode_loading_of m resonance cutoff }
 {
     if is_single_mode(m) {
         let row = mode_index(m) as usize;
-        let at = loading_position(cutoff);
-        let lower = constants::single_mode_cutoff_gain(row, at.lower);
-        let upper = constants::single_mode_cutoff_gain(row, at.upper);
-        return interpolate(lower, upper, at.fraction)
-            * constants::single_mode_resonance_gain(row, resonance as usize);
+        loading(constants::single_mode_cutoff_gain, row, cutoff)
+            * constants::single_mode_resonance_gain(row, resonance as usize)
+    } else {
+        1.0
     }
-    1.0
 }
 
 // All factors of a mode's output gain.
+#[tactic(auto, unfolding(crate::specs::Gain::filter_mode_output_gain_of))]
 fn product_of(mode: u8, resonance: u8, cutoff: u16, loading: f32) -> f32
     ensures { result ≡ G.filter_mode_output_gain_of mode resonance cutoff loading }
 {
@@ -382,6 +418,7 @@ fn product_of(mode: u8, resonance: u8, cutoff: u16, loading: f32) -> f32
 
 // The output gain of a mode at a resonance and the effective cutoff. `loading` is the bundle's highpass entry for that cutoff. Each mode is named, so that a factor which it
 // does not have, a 1, costs nothing; no output, and high with another, have none.
+#[tactic(auto, unfolding(crate::specs::Gain::filter_mode_output_gain_of))]
 pub fn filter_mode_output_gain(mode: u8, resonance: u8, cutoff: u16, loading: f32) -> f32
     ensures { result ≡ G.filter_mode_output_gain_of mode resonance cutoff loading }
 {
@@ -396,11 +433,9 @@ pub fn filter_mode_output_gain(mode: u8, resonance: u8, cutoff: u16, loading: f3
 }
 
 // The symmetric loading of a single mode's output at the written cutoff: row 0 low, 1 band, 2 high.
+#[tactic(auto, unfolding(crate::specs::Gain::symmetric_gain_of))]
 pub fn symmetric_gain(mode_index: usize, cutoff: u16) -> f32
     ensures { result ≡ G.symmetric_gain_of mode_index cutoff }
 {
-    let at = loading_position(cutoff);
-    let lower = constants::symmetric_loading_gain(mode_index, at.lower);
-    let upper = constants::symmetric_loading_gain(mode_index, at.upper);
-    interpolate(lower, upper, at.fraction)
+    loading(constants::symmetric_loading_gain, mode_index, cutoff)
 }

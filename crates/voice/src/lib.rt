@@ -6,7 +6,7 @@ ghost use Rattle.voice.specs.Voice.{voice_at, valid_voice_at};
 ghost use Rattle.voice.specs.Levels.{source_resting_of, filter_voice_signal_of, mixer_waveform_of, mixer_voice_signal_of};
 
 // The levels of the two DACs, the number of the selected waveforms, whether they are a combination, and whether the waveform DAC stands still.
-#[derive(Clone, Copy)]
+#[derive(Clone, Copy, Debug, PartialEq)]
 pub struct VoiceSignal {
     pub waveform: f32,
     pub envelope: f32,
@@ -18,6 +18,7 @@ pub struct VoiceSignal {
 // ---- its bytes
 
 // The voice whose bytes begin at a place, valid or not. What is not there reads as 0.
+#[tactic(auto, unfolding(crate::specs::Voice::voice_at))]
 pub fn voice_at(s: &[u8], place: u32) -> VoiceSignal
     ensures { result ≡ voice_at s.now place }
 {
@@ -32,6 +33,7 @@ pub fn voice_at(s: &[u8], place: u32) -> VoiceSignal
 }
 
 // Whether they are a voice's: the floats finite, the selection at most 15, the flags 0 or 1, the last byte zero.
+#[tactic(auto, unfolding(crate::specs::Voice::valid_voice_at))]
 pub fn valid_voice_at(s: &[u8], place: u32) -> bool
     ensures { result ≡ valid_voice_at s.now place }
 {
@@ -46,6 +48,7 @@ pub fn valid_voice_at(s: &[u8], place: u32) -> bool
 // ---- its levels
 
 // The level of a voice at rest.
+#[tactic(auto, unfolding(crate::specs::Levels::source_resting_of))]
 pub fn source_resting() -> f32
     ensures { result ≡ source_resting_of }
 {
@@ -53,6 +56,7 @@ pub fn source_resting() -> f32
 }
 
 // The level at the filter's summer.
+#[tactic(auto, unfolding(crate::specs::Levels::filter_voice_signal_of))]
 pub fn filter_voice_signal(signal: VoiceSignal) -> f32
     ensures { result ≡ filter_voice_signal_of signal }
 {
@@ -63,6 +67,7 @@ pub fn filter_voice_signal(signal: VoiceSignal) -> f32
 }
 
 // The waveform as the mixer hears it: a saw, selection 2, is bent as far as its blend goes.
+#[tactic(auto, unfolding(crate::specs::Levels::mixer_waveform_of))]
 fn mixer_waveform(signal: VoiceSignal, saw_blend: f32) -> f32
     ensures { result ≡ mixer_waveform_of signal saw_blend }
 {
@@ -70,12 +75,14 @@ fn mixer_waveform(signal: VoiceSignal, saw_blend: f32) -> f32
     if signal.waveform_selection == 2 {
         let settled = constants::PURE_SAW_MIXER_LINEAR * waveform
             + constants::PURE_SAW_MIXER_QUADRATIC * waveform * waveform;
-        return waveform + saw_blend * (settled - waveform);
+        waveform + saw_blend * (settled - waveform)
+    } else {
+        waveform
     }
-    waveform
 }
 
 // The level at the mixer.
+#[tactic(auto, unfolding(crate::specs::Levels::mixer_voice_signal_of))]
 pub fn mixer_voice_signal(signal: VoiceSignal, saw_blend: f32) -> f32
     ensures { result ≡ mixer_voice_signal_of signal saw_blend }
 {

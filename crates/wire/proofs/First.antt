@@ -1,5 +1,5 @@
 -- Laws of `first` and `every`, and of the entries that do not lie whole in the bytes.
-use Prim.Native.Nat.{ℕ, zero, suc, ◌+◌, ◌-◌, ◌*◌, ◌≤◌, ◌<◌}
+use Prim.Native.Nat.{ℕ, zero, suc, ◌+◌, ◌-◌, ◌*◌, ◌/◌, ◌≤◌, ◌<◌, min}
 use mathlib.Core.Path.{◌≡◌, refl, ap, subst, ◌∙◌}
 use mathlib.Core.Bool.{Bool, true, false, cond}
 use mathlib.Core.Logic.{⊎_elim}
@@ -64,6 +64,27 @@ module _ (s : List ℕ) (from n m : ℕ) (h : length s < from + 4 * n + 4) (l : 
       first_is ok m 0 m (omega arith) (omega arith)
       (λ (k : ℕ) g u. ⊎_elim (λ (a : n ≤ k). usable_past s from k (omega arith)) (λ (b : k < n). first_before ok n 0 k g (omega arith)) (le_or_lt n k))
       (λ u. absurd (omega arith))
+
+-- Of m entries, n lie whole in the bytes: the first unusable one of the n, where there is one, and else none.
+module _ (s : List ℕ) (from m n : ℕ) (e : n ≡ min m ((length s - from) / 4)) where
+  pub found_among : first_unusable_of s from n < n → first_unusable_of s from m ≡ first_unusable_of s from n
+  found_among f =
+      ⊎_elim
+      (λ (g : m ≤ n). let q : m ≡ n = omega arith in ap (first_unusable_of s from) q)
+      (λ (g : n < m). found_inside s from n m (omega arith) (omega arith) f)
+      (le_or_lt m n)
+
+  pub none_among : n ≤ first_unusable_of s from n → first_unusable_of s from m ≡ m
+  none_among f =
+      ⊎_elim
+      (λ (g : m ≤ n). let q : m ≡ n = omega arith in rw q (none_all f))
+      (λ (g : n < m). none_inside s from n m (omega arith) (omega arith) f)
+      (le_or_lt m n)
+    where
+      none_all : n ≤ first_unusable_of s from n → first_unusable_of s from n ≡ n
+      none_all f =
+          let ok = usable_entry s from in
+          first_is ok n 0 n (omega arith) (omega arith) (λ k g u. first_before ok n 0 k g (omega arith)) (λ u. absurd (omega arith))
 
 -- What the entries are where none is found, and where one is.
 module _ (s : List ℕ) (from n : ℕ) where

@@ -10,7 +10,11 @@ use native.Mathlib.Nat.{zero-add, add_assoc, add-zero, mul-zero, mul-suc, mul-le
 use lib.Arith.{mod-mul}
 use lib.Dec.{leb, lit<}
 use lib.ListN.{length, take, drop, length-append, length-take, length-drop, take-append-drop, drop_of_length-le, get_or-eq_default}
-use lib.Seq.{length-take-le, take_all, drop-cons, take-append-le, drop-append-le, take_at, drop_at, drop-drop, get_or-take, get_or-drop, sets, sets-eq, paste, take-length}
+use lib.Seq.{length-take-le, take_all, drop-cons, take-append-le, drop-append-le, take_at, drop_at, drop-drop, get_or-take, get_or-drop, take-length}
+use borrow.Rule.Slice.PartMut.{put_mid}
+use Rattle.std.proofs.lemmas.Slice.{put_mid-paste}
+use Rattle.std.specs.Int.{to_le_bytes}
+use mir.Syntax.{w32}
 use borrow.Author.Tests.{le-leb, lt-leb, leb-true, leb-false}
 use Rattle.wire.specs.Wire.{Bytes, little, bytes_of, byte_at, number_at, put_at, rows}
 
@@ -32,6 +36,14 @@ pub length-bytes_of : (n v : ℕ) → length (bytes_of n v) ≡ n
 unfolding bytes_of
 length-bytes_of zero v = refl
 length-bytes_of (suc n) v = ap suc (length-bytes_of n (v / 256))
+
+-- the library's four bytes
+pub to_le_bytes-four : (v : ℕ) → to_le_bytes w32 v ≡ bytes_of 4 v
+unfolding bytes_of
+to_le_bytes-four v =
+    let two : v / 65536 % 256 ≡ v / 256 / 256 % 256 = omega arith in
+    let three : v / 16777216 % 256 ≡ v / 256 / 256 / 256 % 256 = omega arith in
+    rw (two, three)
 
 pub little-bytes_of : (n v : ℕ) → little (bytes_of n v) ≡ v % 256 ^ n
 unfolding bytes_of
@@ -172,12 +184,9 @@ put_at-join s p a b q e h =
     rw (put_at_in s p a (omega arith), put_at_in s p (a ++ b) (omega arith), l, e, ← append_assoc (take p s) a b)
     (front_step s (take p s ++ a) b q (omega (arith, length-append (take p s) a, length-take-le p s (omega arith))) h)
 
--- Stores in a row are one write, and so is a copy that has come to its end.
-pub sets-put_at : (s : List ℕ) (p : ℕ) (vs : List ℕ) → p + length vs ≤ length s → sets s p vs ≡ put_at s p vs
-sets-put_at s p vs h = sets-eq vs s p h ∙ sym (put_at_in s p vs h)
-
-pub paste-put_at : (s : List ℕ) (p : ℕ) (vs : List ℕ) → p + length vs ≤ length s → paste s p vs (length vs) ≡ put_at s p vs
-paste-put_at s p vs h = rw take-length (sym (put_at_in s p vs h))
+-- A copy into the k elements from p on is one write.
+pub put_mid-put_at : (s : List ℕ) (p k : ℕ) (ys vs : List ℕ) → ys ≡ vs → length vs ≡ k → p + k ≤ length s → put_mid p k s ys ≡ put_at s p vs
+put_mid-put_at s p k ys vs e l h = put_mid-paste p k s ys vs k e refl (sym l) ∙ rw (← l, take-length) (sym (put_at_in s p vs (omega arith)))
 
 -- ---- reading what was written, and beside it
 

@@ -1,34 +1,16 @@
--- Sixteen words that are each usable: judged four at a time, and by looking for the first that is not.
-use Prim.Native.Nat.{ℕ, zero, suc, ◌+◌, ◌*◌, ◌≤◌, ◌<◌}
-use mathlib.Core.Path.{◌≡◌, refl, sym, ◌∙◌}
+-- Sixteen words: each usable where none is found that is not; and each at its place.
+use Prim.Native.Nat.{ℕ, zero, suc, ◌+◌, ◌*◌, ◌<◌}
+use mathlib.Core.Path.{◌≡◌, refl, ap, ◌∙◌}
 use mathlib.Core.Bool.{Bool, true, false, cond, ◌&&◌}
-use mathlib.Core.Logic.{⊎_elim}
-use mathlib.Core.List.{List, [], ◌∷◌, ◌++◌}
-use native.Mathlib.Nat.{zero-add, add_assoc, add-zero}
+use mathlib.Core.List.{List, [], ◌∷◌}
+use native.Mathlib.Nat.{add-zero}
 use native.Mathlib.Omega.{arith}
 use borrow.Author.Tests.{eq-eqb, ne_eqb}
 use lib.Dec.{eqb}
-use lib.ListN.{length, get_or, set}
-use lib.Seq.{ext_get_or, get_or-set_same, get_or-set_other}
+use lib.ListN.{length, get_or, drop, drop_of_length-le}
+use lib.Seq.{drop-cons}
 use Rattle.wire.specs.Wire.{u32_at, sixteen_at, usable_of, all_usable}
 use Rattle.wire.specs.First.{first, usable_entry, first_unusable_of}
-use Rattle.wire.specs.Inner.{four_at}
-use Rattle.wire.proofs.Laws.{le_or_lt}
-
-pub and_four : (a b c d : Bool) → (a && b && c && d) ≡ (a && (b && (c && (d && true))))
-and_four true true true true = refl
-and_four true true true false = refl
-and_four true true false d = refl
-and_four true false c d = refl
-and_four false b c d = refl
-
-all_append : (a b : List ℕ) → (all_usable a && all_usable b) ≡ all_usable (a ++ b)
-all_append [] b = refl
-all_append (w ∷ ws) b = go (usable_of w) (all_append ws b)
-  where
-    go : (u : Bool) → (all_usable ws && all_usable b) ≡ all_usable (ws ++ b) → ((u && all_usable ws) && all_usable b) ≡ (u && all_usable (ws ++ b))
-    go true e = e
-    go false e = refl
 
 -- The words of the n entries from i on.
 abbrev words_from : List ℕ → ℕ → ℕ → ℕ → List ℕ
@@ -54,20 +36,35 @@ none_is_all s p (suc n) i = go (usable_of (u32_at s (p + 4 * i))) (none_is_all s
     go false e = ne_eqb i (i + suc n) (λ q. omega arith)
 
 module _ (s : List ℕ) (p : ℕ) where
-  pub by_fours : (all_usable (four_at s p) && all_usable (four_at s (p + 16)) && all_usable (four_at s (p + 32)) && all_usable (four_at s (p + 48))) ≡ all_usable (sixteen_at s p)
-  by_fours =
-      let two = four_at s p ++ four_at s (p + 16) in
-      rw (all_append (four_at s p) (four_at s (p + 16)), all_append two (four_at s (p + 32)), all_append (two ++ four_at s (p + 32)) (four_at s (p + 48))) (simp (add_assoc))
-
   pub by_first : eqb (first_unusable_of s p 16) 16 ≡ all_usable (sixteen_at s p)
   by_first = none_is_all s p 16 0 ∙ rw (add-zero p) refl
 
-  -- one word more at its place, and sixteen that are each at theirs
-  pub word_stored : (ws : List ℕ) (i v : ℕ) → i < length ws → v ≡ u32_at s (p + 4 * i) → ((k : ℕ) → k < i → get_or ws k 0 ≡ u32_at s (p + 4 * k))
-      → (k : ℕ) → k < i + 1 → get_or (set ws i v) k 0 ≡ u32_at s (p + 4 * k)
-  word_stored ws i v h e b k l =
-      ⊎_elim (λ (g : i ≤ k). let q : k ≡ i = omega arith in rw q (get_or-set_same ws i v 0 h ∙ e)) (λ (g : k < i). get_or-set_other ws i k v 0 (λ q. omega arith) ∙ b k g) (le_or_lt i k)
+-- Sixteen words that are each at their places.
+abbrev items : List ℕ → ℕ → ℕ → List ℕ
+items ws zero i = []
+items ws (suc n) i = get_or ws i 0 ∷ items ws n (suc i)
 
-  pub by_places : (ws : List ℕ) → length ws ≡ 16 → ((k : ℕ) → k < 16 → get_or ws k 0 ≡ u32_at s (p + 4 * k)) → ws ≡ sixteen_at s p
-  by_places ws e h =
-      ext_get_or 0 ws (words_from s p 16 0) e (λ (k : ℕ) l. let q : k < 16 = omega (arith, e) in h k q ∙ sym (rw zero-add at (word_from s p 16 0 k q))) ∙ rw (add-zero p) refl
+items_same : (ws : List ℕ) (n i : ℕ) → length ws ≡ i + n → drop i ws ≡ items ws n i
+items_same ws zero i e = drop_of_length-le ws (omega arith)
+items_same ws (suc n) i e = drop-cons ws i 0 (omega arith) ∙ ap (λ (t : List ℕ). get_or ws i 0 ∷ t) (items_same ws n (suc i) (omega arith))
+
+pub by_items : (s : List ℕ) (p : ℕ) (ws : List ℕ) → length ws ≡ 16
+    → get_or ws 0 0 ≡ u32_at s p
+    → get_or ws 1 0 ≡ u32_at s (p + 4)
+    → get_or ws 2 0 ≡ u32_at s (p + 8)
+    → get_or ws 3 0 ≡ u32_at s (p + 12)
+    → get_or ws 4 0 ≡ u32_at s (p + 16)
+    → get_or ws 5 0 ≡ u32_at s (p + 20)
+    → get_or ws 6 0 ≡ u32_at s (p + 24)
+    → get_or ws 7 0 ≡ u32_at s (p + 28)
+    → get_or ws 8 0 ≡ u32_at s (p + 32)
+    → get_or ws 9 0 ≡ u32_at s (p + 36)
+    → get_or ws 10 0 ≡ u32_at s (p + 40)
+    → get_or ws 11 0 ≡ u32_at s (p + 44)
+    → get_or ws 12 0 ≡ u32_at s (p + 48)
+    → get_or ws 13 0 ≡ u32_at s (p + 52)
+    → get_or ws 14 0 ≡ u32_at s (p + 56)
+    → get_or ws 15 0 ≡ u32_at s (p + 60)
+    → ws ≡ sixteen_at s p
+by_items s p ws l e0 e1 e2 e3 e4 e5 e6 e7 e8 e9 e10 e11 e12 e13 e14 e15 =
+    items_same ws 16 0 l ∙ rw (e0, e1, e2, e3, e4, e5, e6, e7, e8, e9, e10, e11, e12, e13, e14, e15) refl

@@ -2,7 +2,7 @@
 // and what does not fit is not written.
 #![tactic(auto)]
 
-ghost use Rattle.std.specs.Prelude.{◌≡◌, [], ◌∷◌, ◌+◌, ◌*◌, ◌≤◌, length};
+ghost use Rattle.std.specs.Prelude.{◌≡◌, ◌↔◌, [], ◌∷◌, ◌+◌, ◌*◌, ◌≤◌, length, IsTrue};
 ghost use Rattle.std.specs.Float.{binary32};
 ghost use Rattle.std.specs.Float.Ieee.{of_bits, to_bits};
 ghost use Rattle.std.specs.Int.{w16};
@@ -17,43 +17,32 @@ ghost use Rattle.wire.specs.Inner.{four_at, block_usable_of};
 pub fn signed16(bits: u16) -> i16
     ensures { result ≡ to_z w16 bits }
 {
-    if bits < 0x8000 {
-        bits as i16
-    } else {
-        -1 - ((0xffff - bits) as i16)
-    }
+    bits.cast_signed()
 }
 
 // The 16 bits of a signed number.
 pub fn bits16(value: i16) -> u16
     ensures { result ≡ of_z w16 value }
 {
-    if value >= 0 {
-        value as u16
-    } else {
-        0xffff - ((-1 - value) as u16)
-    }
+    value.cast_unsigned()
 }
 
 // The float of a bit pattern. Every NaN's pattern is the logic's one NaN.
 pub fn f32_of(bits: u32) -> f32
     ensures { result ≡ of_bits binary32 bits }
 {
-    if bits % 0x8000_0000 <= 0x7f80_0000 {
-        f32::from_bits(bits)
-    } else {
-        0.0 / 0.0
-    }
+    std::num::f32_from_bits_with_nan(bits)
 }
 
 // The bit pattern of a float. A NaN has none of its own, and gives 0x7fc0_0000.
 pub fn float_bits(x: f32) -> u32
     ensures { result ≡ to_bits binary32 x }
 {
-    if x == x { f32::to_bits(x) } else { 0x7fc0_0000 }
+    std::num::f32_to_bits_with_nan(x)
 }
 
 // Whether a pattern is a usable entry's: finite and at most 1,024 in magnitude.
+#[tactic(auto, unfolding(crate::specs::Wire::usable_of))]
 pub fn usable(bits: u32) -> bool
     ensures { result ≡ usable_of bits }
 {
@@ -61,6 +50,7 @@ pub fn usable(bits: u32) -> bool
 }
 
 // Whether a pattern is a finite float's.
+#[tactic(auto, unfolding(crate::specs::Wire::finite_bits_of))]
 pub fn finite_bits(bits: u32) -> bool
     ensures { result ≡ finite_bits_of bits }
 {
@@ -69,28 +59,31 @@ pub fn finite_bits(bits: u32) -> bool
 
 // ---- reading
 
-// The number of two bytes, and of four.
-fn join2(a: u8, b: u8) -> u16
-    ensures { result ≡ little (a ∷ b ∷ []) }
-{
-    (a as u16) + 256 * (b as u16)
-}
-
+// The number of four bytes.
 pub fn join4(a: u8, b: u8, c: u8, d: u8) -> u32
     ensures { result ≡ little (a ∷ b ∷ c ∷ d ∷ []) }
 {
-    (a as u32) + 256 * (b as u32) + 65536 * (c as u32) + 16777216 * (d as u32)
+    u32::from_le_bytes([a, b, c, d])
+}
+
+// Whether n bytes are there from a place on.
+fn holds(s: &[u8], p: usize, n: usize) -> bool
+    ensures { IsTrue result ↔ (p + n ≤ length s.now) }
+{
+    n <= s.len() && p <= s.len() - n
 }
 
 // Two bytes that are there: one load.
+#[tactic(auto, using(crate::proofs::Laws::two_bytes))]
 fn pair(s: &[u8], p: usize) -> u16
     requires { p + 2 ≤ length s.now }
     ensures { result ≡ u16_at s.now p }
 {
-    join2(s[p], s[p + 1])
+    u16::from_le_bytes([s[p], s[p + 1]])
 }
 
 // Four bytes that are there: one load.
+#[tactic(auto, using(crate::proofs::Laws::four_bytes))]
 fn word(s: &[u8], p: usize) -> u32
     requires { p + 4 ≤ length s.now }
     ensures { result ≡ u32_at s.now p }
@@ -102,22 +95,19 @@ fn word(s: &[u8], p: usize) -> u32
 pub fn byte_at(s: &[u8], p: usize) -> u8
     ensures { result ≡ byte_at s.now p }
 {
-    if p < s.len() { s[p] } else { 0 }
+    s.get(p).copied().unwrap_or(0)
 }
 
 // The two bytes at a place, and 0 where they are not both there.
+#[tactic(auto, using(crate::proofs::Laws::number_at_out))]
 pub fn u16_at(s: &[u8], p: usize) -> u16
     ensures { result ≡ u16_at s.now p }
 {
-    if 2 <= s.len() {
-        if p <= s.len() - 2 {
-            return pair(s, p);
-        }
-    }
-    0
+    if holds(s, p, 2) { pair(s, p) } else { 0 }
 }
 
 // The same two bytes as a signed number.
+#[tactic(auto, unfolding(crate::specs::Wire::i16_at))]
 pub fn i16_at(s: &[u8], p: usize) -> i16
     ensures { result ≡ i16_at s.now p }
 {
@@ -125,15 +115,11 @@ pub fn i16_at(s: &[u8], p: usize) -> i16
 }
 
 // The four bytes at a place, and 0 where they are not all there.
+#[tactic(auto, using(crate::proofs::Laws::number_at_out))]
 pub fn u32_at(s: &[u8], p: usize) -> u32
     ensures { result ≡ u32_at s.now p }
 {
-    if 4 <= s.len() {
-        if p <= s.len() - 4 {
-            return word(s, p);
-        }
-    }
-    0
+    if holds(s, p, 4) { word(s, p) } else { 0 }
 }
 
 // Sixteen words side by side that are there.
@@ -141,24 +127,7 @@ fn sixteen(s: &[u8], p: usize) -> [u32; 16]
     requires { p + 64 ≤ length s.now }
     ensures { result ≡ sixteen_at s.now p }
 {
-    [
-        word(s, p),
-        word(s, p + 4),
-        word(s, p + 8),
-        word(s, p + 12),
-        word(s, p + 16),
-        word(s, p + 20),
-        word(s, p + 24),
-        word(s, p + 28),
-        word(s, p + 32),
-        word(s, p + 36),
-        word(s, p + 40),
-        word(s, p + 44),
-        word(s, p + 48),
-        word(s, p + 52),
-        word(s, p + 56),
-        word(s, p + 60),
-    ]
+    std::array::from_fn(|i| word(s, p + 4 * i))
 }
 
 // The sixteen words from a place on, each 0 where it is not all there; one test of the length serves them all.
@@ -166,18 +135,11 @@ pub fn sixteen_at(s: &[u8], place: u32) -> [u32; 16]
     ensures { result ≡ sixteen_at s.now place }
 {
     let p = place as usize;
-    if 64 <= s.len() {
-        if p <= s.len() - 64 {
-            return sixteen(s, p);
-        }
+    if holds(s, p, 64) {
+        sixteen(s, p)
+    } else {
+        std::array::from_fn(|i| u32_at(s, p + 4 * i))
     }
-    let mut words = [0u32; 16];
-    let mut i = 0;
-    while i < 16 {
-        words[i] = u32_at(s, p + 4 * i);
-        i += 1;
-    }
-    words
 }
 
 // The four bytes at a place as a float, whatever their pattern.
@@ -195,6 +157,7 @@ pub fn usable_at(s: &[u8], p: usize) -> bool
 }
 
 // Whether the float at a place is finite.
+#[tactic(auto, using(crate::proofs::Floats::finite_bits_is))]
 pub fn finite_at(s: &[u8], p: usize) -> bool
     ensures { result ≡ finite_at s.now p }
 {
@@ -203,7 +166,7 @@ pub fn finite_at(s: &[u8], p: usize) -> bool
 
 // ---- the first unusable entry
 
-// Whether 64 entries are left at p, and each of the 64 is usable. With no way out of the loop the compiler makes vector code of it.
+// Whether 64 entries are left at p, and each of the 64 is usable. With no way out of the loop, as `all` has one, the compiler makes vector code of it.
 fn block_usable(s: &[u8], p: usize, left: usize) -> bool
     requires { p + 4 * left ≤ length s.now }
     ensures { result ≡ block_usable_of s.now p left }
@@ -212,15 +175,13 @@ fn block_usable(s: &[u8], p: usize, left: usize) -> bool
         return false;
     }
     let mut all = true;
-    let mut j = 0;
-    while j < 64 {
+    for j in 0..64 {
         all = all & usable(word(s, p + 4 * j));
-        j += 1;
     }
     all
 }
 
-// Of n entries that lie whole in the bytes: 64 at a time where they are usable, else one.
+// Of n entries that lie whole in the bytes: 64 at a time where they are usable, else one. A step is of either length, so no `for` has it.
 fn scan(s: &[u8], from: usize, n: usize) -> usize
     requires { from + 4 * n ≤ length s.now }
     ensures { result ≡ first_unusable_of s.now from n }
@@ -246,10 +207,7 @@ pub fn first_unusable(s: &[u8], from: usize, count: usize) -> usize
     if s.len() < from {
         return count;
     }
-    let inside = (s.len() - from) / 4;
-    if count <= inside {
-        return scan(s, from, count);
-    }
+    let inside = count.min((s.len() - from) / 4);
     let i = scan(s, from, inside);
     if i < inside { i } else { count }
 }
@@ -267,15 +225,11 @@ pub fn sixteen_usable(s: &[u8], place: u32) -> bool
     ensures { result ≡ all_usable (sixteen_at s.now place) }
 {
     let p = place as usize;
-    if 64 <= s.len() {
-        if p <= s.len() - 64 {
-            return four_usable(s, p)
-                & four_usable(s, p + 16)
-                & four_usable(s, p + 32)
-                & four_usable(s, p + 48);
-        }
+    if holds(s, p, 64) {
+        four_usable(s, p) & four_usable(s, p + 16) & four_usable(s, p + 32) & four_usable(s, p + 48)
+    } else {
+        first_unusable(s, p, 16) == 16
     }
-    first_unusable(s, p, 16) == 16
 }
 
 // ---- writing
@@ -285,24 +239,15 @@ fn store(s: &mut [u8], p: usize, v: u32)
     requires { p + 4 ≤ length s.old }
     ensures { s.new ≡ put_at s.old p (bytes_of 4 v) }
 {
-    s[p] = (v % 256) as u8;
-    s[p + 1] = (v / 256 % 256) as u8;
-    s[p + 2] = (v / 256 / 256 % 256) as u8;
-    s[p + 3] = (v / 256 / 256 / 256 % 256) as u8;
+    s[p..p + 4].copy_from_slice(&v.to_le_bytes());
 }
 
 // Writes bytes at a place, where they fit.
 pub fn put(dst: &mut [u8], at: usize, src: &[u8])
     ensures { dst.new ≡ put_at dst.old at src.now }
 {
-    if at <= dst.len() {
-        if src.len() <= dst.len() - at {
-            let mut i = 0;
-            while i < src.len() {
-                dst[at + i] = src[i];
-                i += 1;
-            }
-        }
+    if holds(dst, at, src.len()) {
+        dst[at..at + src.len()].copy_from_slice(src);
     }
 }
 
@@ -310,10 +255,8 @@ pub fn put(dst: &mut [u8], at: usize, src: &[u8])
 pub fn put_u32(s: &mut [u8], p: usize, v: u32)
     ensures { s.new ≡ put_at s.old p (bytes_of 4 v) }
 {
-    if 4 <= s.len() {
-        if p <= s.len() - 4 {
-            store(s, p, v);
-        }
+    if holds(s, p, 4) {
+        store(s, p, v);
     }
 }
 
@@ -328,12 +271,10 @@ pub fn put_f32(s: &mut [u8], p: usize, x: f32)
 pub fn put_row(s: &mut [u8], p: usize, a: u32, b: u32, c: u32, d: u32)
     ensures { s.new ≡ put_at s.old p (row_bytes a b c d) }
 {
-    if 16 <= s.len() {
-        if p <= s.len() - 16 {
-            store(s, p, a);
-            store(s, p + 4, b);
-            store(s, p + 8, c);
-            store(s, p + 12, d);
-        }
+    if holds(s, p, 16) {
+        store(s, p, a);
+        store(s, p + 4, b);
+        store(s, p + 8, c);
+        store(s, p + 12, d);
     }
 }

@@ -10,12 +10,12 @@ unfolding frozen_dac_operating_point_of terms_of neg of_bits
 loop-i-init c =
     let rows = c.frozen_dac_polynomial-rows.ensures in
     let terms = c.terms-terms.ensures in
-    (omega arith, rw rows refl, rw terms refl, rw (rows, terms, c.volume_position-x.ensures) refl)
+    (rw rows refl, rw terms refl, rw (rows, terms, c.volume_position-x.ensures) refl)
 
 pub loop-i-preserved : goal.loop-i-preserved
 loop-i-preserved c =
     let inv = c.loop-i.invariant in
-    (omega arith, inv.1, inv.2, inv.3 ∙ one_row _ _ _ c.loop-i.sum c.loop-i.i (omega arith) (omega arith) ∙ rw c.polynomial.ensures refl)
+    (inv.0, inv.1, inv.2 ∙ one_row _ _ _ c.loop-i.sum c.loop-i.i (omega arith) (omega arith) ∙ rw c.polynomial.ensures refl)
 
 pub returns : goal.returns
-returns c = let l = c.loop-i in sym (l.invariant.3 ∙ no_row _ _ _ l.sum l.i (omega arith))
+returns c = let l = c.loop-i in sym (l.invariant.2 ∙ no_row _ _ _ l.sum l.i (omega arith))

@@ -1,9 +1,6 @@
 use native.Mathlib.Omega.{arith}
-use Rattle.response.proofs.Laws.{no_nans, near_index, near_told}
+use Rattle.response.proofs.Laws.{near_index, near_told}
 use Rattle.response.proofs.operating_position_near.Goals as goal
-
-pub plain_activity-sum-requires : goal.plain_activity-sum-requires
-plain_activity-sum-requires c = no_nans _ _ c.if-band-low.true
 
 pub overflow_add-result : goal.overflow_add-result
 overflow_add-result c = omega (arith, c.bin_near-lower.ensures, near_index _ c.if-sum-position.true)

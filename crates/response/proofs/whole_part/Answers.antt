@@ -14,5 +14,5 @@ int_to_float-result c = passes _ (le-leb c.args.lower 0x100_0000 (omega arith))
 pub returns-then-position : goal.returns-then-position
 returns-then-position c = whole_from c.args.position (subst T (sym c.well_formed.0.1) tt) c.requires (omega arith) c.if-position.true
 
-pub returns : goal.returns
-returns c = whole_past c.args.position c.requires (omega arith) c.if-position.false
+pub returns-else-position : goal.returns-else-position
+returns-else-position c = whole_past c.args.position c.requires (omega arith) c.if-position.false

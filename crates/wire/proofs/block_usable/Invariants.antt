@@ -1,11 +1,7 @@
 -- The invariant: the flag says whether each of the j entries so far is usable.
-use Prim.Native.Nat.{◌-◌, ◌≤◌}
 use mathlib.Core.Path.{◌≡◌}
 use Rattle.wire.specs.First.{every, usable_entry}
 use Rattle.wire.proofs.block_usable.Given as goal
 
 abbrev pub invariant-loop-j : goal.invariant-loop-j
-invariant-loop-j l = (l.j ≤ 64) × (l.all ≡ every (usable_entry l.s l.p) l.j)
-
-abbrev pub decreases-loop-j : goal.decreases-loop-j
-decreases-loop-j l = 64 - l.j
+invariant-loop-j l = l.all ≡ every (usable_entry l.s l.p) l.j

@@ -1,4 +1,0 @@
-use Rattle.response.proofs.add_if.Goals as goal
-
-pub returns-then-on : goal.returns-then-on
-returns-then-on c = simp c.if-on.true
