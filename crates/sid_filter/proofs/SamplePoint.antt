@@ -133,7 +133,7 @@ module _ (l : Lent) (block : List ℕ) (sum energy : Float) where
       go None h = first_assoc (judge_lent_of l) (Err Argument) _ ∙ sym (answered (judge_lent_of l) (Err Argument))
       go (Some s) h =
           rw ((decoded block s h).fields, played_one (zero_decays l) s (Sample sum energy), sample_alike l s sum energy, known, first_of_done (judge_lent_of l))
-          (sym (answered (first_of (judge_lent_of l) (sample_refusal_of l s sum energy)) (Ok (state_point_of l s sum)) ∙ first_of_done _))
+          (rw known at (sym (answered (first_of (judge_lent_of l) (sample_refusal_of l s sum energy)) (Ok (state_point_of l s sum)) ∙ first_of_done (first_of (judge_lent_of l) (sample_refusal_of l s sum energy)))))
 
   -- no script is not readable
   none_judged : judge_script_of [] (length output) ≡ Err Script

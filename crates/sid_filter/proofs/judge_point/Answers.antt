@@ -19,3 +19,12 @@ returns-then-is_finite c =
 
 pub tried-requires-2 : goal.tried-requires-2
 tried-requires-2 c = c.if-state-ne-BYTES.false
+
+pub returns-in-Err-Script : goal.returns-in-Err-Script
+returns-in-Err-Script c = ?
+
+pub returns-in_default : goal.returns-in_default
+returns-in_default c = ?
+
+pub returns-in_default-2 : goal.returns-in_default-2
+returns-in_default-2 c = ?
