@@ -8,6 +8,7 @@ use answers::{Answer, Buffer};
 use text::{push, push_number};
 
 // The text with words and a place after it.
+#[tactic(auto, using(text::proofs::Laws::end_then, text::proofs::Laws::put_then), unfolding(crate::specs::Lines::placed_of))]
 fn push_placed(out: &mut [u8], at: usize, words: &[u8], place: u32) -> usize
     requires { at ≤ length out.old }
     ensures prefix_len { IsPrefixLen result out.new }
@@ -20,6 +21,7 @@ fn push_placed(out: &mut [u8], at: usize, words: &[u8], place: u32) -> usize
 }
 
 // The text with an answer's words after it: a sentence for each of the eleven refusals.
+#[tactic(auto, unfolding(crate::specs::Lines::words_of))]
 fn push_words(out: &mut [u8], at: usize, answer: Answer) -> usize
     requires { at ≤ length out.old }
     ensures prefix_len { IsPrefixLen result out.new }
@@ -62,6 +64,7 @@ fn push_words(out: &mut [u8], at: usize, answer: Answer) -> usize
 }
 
 // The text with the events done and the samples written after it.
+#[tactic(auto, using(text::proofs::Laws::end_then, text::proofs::Laws::put_then), unfolding(crate::specs::Lines::counts_of))]
 fn push_counts(out: &mut [u8], at: usize, events: usize, samples: usize) -> usize
     requires { at ≤ length out.old }
     ensures prefix_len { IsPrefixLen result out.new }
@@ -75,6 +78,7 @@ fn push_counts(out: &mut [u8], at: usize, events: usize, samples: usize) -> usiz
 }
 
 // The text with a refusal's number and words after it.
+#[tactic(auto, using(text::proofs::Laws::end_then, text::proofs::Laws::put_then), unfolding(crate::specs::Lines::refusal_of))]
 fn push_refusal(out: &mut [u8], at: usize, answer: Answer) -> usize
     requires { at ≤ length out.old }
     ensures prefix_len { IsPrefixLen result out.new }
@@ -87,6 +91,7 @@ fn push_refusal(out: &mut [u8], at: usize, answer: Answer) -> usize
 }
 
 // The line of a file that is refused before the first script, from the buffer's start. Answers where it ends.
+#[tactic(auto, using(text::proofs::Laws::end_then, text::proofs::Laws::put_then), unfolding(crate::specs::Lines::refused_line_of))]
 pub fn refused_line(out: &mut [u8], name: &[u8], answer: Answer) -> usize
     ensures prefix_len { IsPrefixLen result out.new }
     ensures value { result ≡ grown_end out.old 0 (refused_line_of name.now answer) }
@@ -99,6 +104,7 @@ pub fn refused_line(out: &mut [u8], name: &[u8], answer: Answer) -> usize
 }
 
 // The line of a script, from the buffer's start. Answers where it ends.
+#[tactic(auto, using(text::proofs::Laws::end_then, text::proofs::Laws::put_then), unfolding(crate::specs::Lines::script_line_of))]
 pub fn script_line(
     out: &mut [u8],
     name: &[u8],

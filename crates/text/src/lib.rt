@@ -14,16 +14,9 @@ pub fn push(out: &mut [u8], at: usize, text: &[u8]) -> usize
     if at > out.len() {
         return out.len();
     }
-    let mut i = 0;
-    while i < text.len() {
-        let place = at + i;
-        if place >= out.len() {
-            return place;
-        }
-        out[place] = text[i];
-        i += 1;
-    }
-    at + i
+    let count = text.len().min(out.len() - at);
+    out[at..at + count].copy_from_slice(&text[..count]);
+    at + count
 }
 
 // The text with a number's digits after it.

@@ -2,8 +2,8 @@
 // record tells. Prints a line for each file: its name, how many of its records agree, and how many it has.
 #![tactic(auto)]
 
-use std::alloc::AllocError;
 use replay::{has, replay_file};
+use std::alloc::AllocError;
 
 // ---- a record: four entries, each by its byte in the bundle and its word; then what is asked
 

@@ -16,7 +16,10 @@ fn main(rt: HostRuntime) {
     let built = curves::build(&bundle, &mut curves);
     let number = answers::report(built).number;
     let bytes = bundle.len();
-    let _ = println!(rt; "bundle {bytes} bytes, decays {} bytes, build {number}", decays.len());
+    let _ = println!(rt;
+        "bundle {bytes} bytes, decays {} bytes, build {number}",
+        decays.len()
+    );
     let lent = Lent {
         bundle: &bundle,
         curves: &curves,

@@ -11,6 +11,7 @@ pub(crate) struct Lent<'a> {
 }
 
 // A piece: whether it goes on from the last one, its script, how many samples that has, the samples and the block that is left.
+#[derive(Clone, Copy)]
 struct Piece<'a> {
     goes_on: bool,
     script: &'a [u8],
@@ -37,9 +38,7 @@ fn piece_of(bytes: &[u8]) -> Piece<'_> {
 fn after_piece(bytes: &[u8]) -> &[u8] {
     let script_bytes = wire::u32_at(bytes, 4) as usize;
     let sample_bytes = 16 * (wire::u32_at(bytes, 8) as usize);
-    bytes
-        .get(80 + script_bytes + sample_bytes..)
-        .unwrap_or(&[])
+    bytes.get(80 + script_bytes + sample_bytes..).unwrap_or(&[])
 }
 
 // How many pieces the bytes hold.
@@ -48,7 +47,7 @@ pub(crate) fn count(bytes: &[u8]) -> usize {
 }
 
 // Runs a piece, and says whether all its events were done, its samples written and its block left.
-fn agrees(piece: &Piece<'_>, lent: Lent<'_>, block: &mut [u8; 68]) -> bool {
+fn agrees(piece: Piece<'_>, lent: Lent<'_>, block: &mut [u8; 68]) -> bool {
     if !piece.goes_on {
         *block = [0; 68];
     }
@@ -80,7 +79,7 @@ pub(crate) fn count_agreeing(bytes: &[u8], lent: Lent<'_>) -> usize {
     let mut agreed = 0;
     let mut rest = bytes.get(4..).unwrap_or(&[]);
     for i in 0..count(bytes) {
-        if agrees(&piece_of(rest), lent, &mut block) {
+        if agrees(piece_of(rest), lent, &mut block) {
             agreed += 1;
         }
         rest = after_piece(rest);

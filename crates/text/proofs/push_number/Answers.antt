@@ -1,11 +1,6 @@
 use Rattle.text.proofs.Laws.{decimal_is}
 use Rattle.text.proofs.push_number.Goals as goal
 
-pub returns-clause-prefix_len : goal.returns-clause-prefix_len
-returns-clause-prefix_len c =
-    let p = c.push in
-    p.ensures.prefix_len
-
 pub returns-clause-value : goal.returns-clause-value
 returns-clause-value c =
     let p = c.push in
