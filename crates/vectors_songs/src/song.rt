@@ -64,7 +64,7 @@ fn agrees(piece: Piece<'_>, lent: Lent<'_>, block: &mut [u8; 68]) -> bool {
     answers::is_done(answer)
         && ended.events == wire::u32_at(piece.script, 0) as usize
         && ended.samples == piece.sample_count
-        && part(&output, 0, 16 * piece.sample_count) == piece.samples
+        && output.starts_with(piece.samples)
         && block.as_slice() == piece.block
 }
 
