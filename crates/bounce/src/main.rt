@@ -123,20 +123,14 @@ fn widen(rt: &HostRuntime, name: &[u8], narrow: &[u8]) -> Result<Vec<u8>, Stop> 
 // Empties the output, or makes it, and plays the scripts into it.
 fn render(rt: &HostRuntime, lent: Lent<'_>, block: &mut [u8]) -> Result<(), Stop> {
     let name = names::name(rt, 4, b"OUTPUT").map_err(|_| Stop::Unwritten)?;
-    let mut output =
-        files::create(rt, &name).map_err(|why| files::unwritten(rt, &name, why))?;
+    let mut output = files::create(rt, &name).map_err(|why| files::unwritten(rt, &name, why))?;
     let played = play(rt, lent, block, &mut output);
     files::settle(&output).map_err(|why| files::unwritten(rt, &name, why))?;
     played
 }
 
 // The scripts in order, up to the first that is not done.
-fn play(
-    rt: &HostRuntime,
-    lent: Lent<'_>,
-    block: &mut [u8],
-    output: &mut File,
-) -> Result<(), Stop> {
+fn play(rt: &HostRuntime, lent: Lent<'_>, block: &mut [u8], output: &mut File) -> Result<(), Stop> {
     for i in 5..names::arg_count(rt) {
         let name = names::name(rt, i, b"SCRIPT")?;
         let script = files::load(rt, &name, SCRIPT_MOST)?;
