@@ -3,7 +3,7 @@ ghost use Rattle.std.specs.Prelude.{◌≡◌};
 ghost use Rattle.control.specs.Registers.{starting_state};
 ghost use Rattle.control.specs.Block.{block_of};
 
-use crate::Stop;
+use crate::{Stop, line_room};
 use control::State;
 use std::fs::File;
 use std::io;
@@ -35,12 +35,12 @@ fn start() -> [u8; 68]
     block
 }
 
-// Bytes of the heap, which a file's place is made of.
+// A copy of bytes that are of a file, or are its name.
 pub(crate) fn copied(rt: &HostRuntime, path: &[u8], bytes: &[u8]) -> Result<Vec<u8>, Stop> {
     Vec::from_slice(rt.alloc(), bytes).map_err(|why| unread(rt, path, Error::from(why)))
 }
 
-// The room is made at once, so that no byte of a long file is moved.
+// The bytes of a file, at most so many. The room is made at once, so that a long file takes no more than its bytes.
 fn read(rt: &HostRuntime, path: &[u8], most: usize) -> io::Result<Vec<u8>> {
     let file = File::open(rt, name(path)?)?;
     let mut bytes = Vec::with_capacity(rt.alloc(), most)?;
@@ -55,7 +55,7 @@ fn name(path: &[u8]) -> io::Result<&str> {
 
 // Puts bytes in the place of a file's: they are written beside it and then take its name, so that it never holds a part of them. Where that fails, it says so.
 pub(crate) fn save(rt: &HostRuntime, path: &[u8], bytes: &[u8]) -> Result<(), Stop> {
-    let mut room = [0u8; 4608];
+    let mut room = line_room();
     let n = bounce_lines::beside(&mut room, path);
     let beside = &room[..n];
     write(rt, beside, bytes).map_err(|why| unwritten(rt, beside, why))?;

@@ -6,13 +6,11 @@ mod files;
 mod names;
 
 use answers::Answer;
-use bounce_step::Stepped;
 use control::{DecodedState, State};
-use std::env::Env;
 use std::fs::File;
 use std::io::{Print, Write};
 
-// Why a bounce ends before its last script is done. Where it is made, it has been said.
+// Why a bounce ends before its last script is done. Who makes one has said so.
 #[derive(Clone, Copy, PartialEq, Eq)]
 pub(crate) enum Stop {
     // The arguments are wrong, or a file cannot be read.
@@ -193,6 +191,6 @@ fn sample_room() -> [u8; 1048576] {
 }
 
 // A path has at most 4,096 bytes, and what is said beside it less than 512.
-fn line_room() -> [u8; 4608] {
+pub(crate) fn line_room() -> [u8; 4608] {
     [0; 4608]
 }

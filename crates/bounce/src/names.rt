@@ -1,5 +1,5 @@
 // The names of the files, which are the program's arguments. std's `Env` fills a lent buffer with one, and answers its length.
-use crate::{Stop, files};
+use crate::{Stop, files, line_room};
 use std::env::{Env, FillError};
 use std::io::{Error, Print};
 
@@ -49,7 +49,7 @@ fn judge_argument(rt: &HostRuntime, own: usize) -> Result<(), Stop> {
 fn judge_beside(rt: &HostRuntime) -> Result<(), Stop> {
     let mut state = io::buffer();
     let n = rt.arg(3, &mut state).unwrap_or(0);
-    let mut beside = [0u8; 4608];
+    let mut beside = line_room();
     let m = bounce_lines::beside(&mut beside, &state[..n]);
     judge_name(rt, &beside[..m], 0)
 }
