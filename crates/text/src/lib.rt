@@ -20,6 +20,7 @@ pub fn push(out: &mut [u8], at: usize, text: &[u8]) -> usize
 }
 
 // The text with a number's digits after it.
+#[tactic(auto, using(crate::proofs::Laws::decimal_is))]
 pub fn push_number(out: &mut [u8], at: usize, number: u64) -> usize
     ensures prefix_len { IsPrefixLen result out.new }
     ensures value { result ≡ grown_end out.old at (decimal_of number) }
