@@ -6,332 +6,153 @@ mod files;
 mod names;
 
 use answers::Answer;
-use control::{Option<State>, State};
-use std::env::Env;
+use control::{DecodedState, State};
 use std::fs::File;
 use std::io::{Print, Write};
 
-// The statuses beside 0, done, and the refusals: the arguments are wrong or a file cannot be read, or one cannot be written.
-const UNREAD: u32 = 101;
+// Why a bounce ends before its last script is done. Who makes one has said so.
+#[derive(Clone, Copy, PartialEq, Eq)]
+pub(crate) enum Stop {
+    // The arguments are wrong, or a file cannot be read.
+    Unread,
+    // A file cannot be written.
+    Unwritten,
+    // A refusal, by its number.
+    Refused(u32),
+}
 
-const UNWRITTEN: u32 = 102;
+impl Stop {
+    fn status(self) -> u32 {
+        match self {
+            Self::Unread => 101,
+            Self::Unwritten => 102,
+            Self::Refused(number) => number,
+        }
+    }
+}
+
+// What a script is run on.
+#[derive(Clone, Copy)]
+struct Lent<'a> {
+    bundle: &'a [u8],
+    curves: &'a [u8],
+    decays: &'a [u8],
+}
 
 fn main(rt: HostRuntime) {
-    let status = bounce(&rt);
+    let status = match bounce(&rt) {
+        Ok(()) => 0,
+        Err(stop) => stop.status(),
+    };
     let _ = println!(rt; "status {status}");
 }
 
-// Each of these functions answers the status, and goes on with the next where it can.
-fn bounce(rt: &HostRuntime) -> u32 {
+// Judges the bundle, the state and then the decays, before anything is written. The state that the scripts leave is saved, but not where samples may be missing
+// from the output.
+fn bounce(rt: &HostRuntime) -> Result<(), Stop> {
     if names::arg_count(rt) < 6 {
         let _ = rt.print("usage: bounce BUNDLE DECAYS STATE OUTPUT SCRIPT..\n");
-        return UNREAD;
+        return Err(Stop::Unread);
     }
-    if !names::are_apart(rt) {
-        return UNREAD;
-    }
-    find_bundle(rt)
-}
+    names::judge_apart(rt)?;
 
-// Finds the bundle's name.
-fn find_bundle(rt: &HostRuntime) -> u32 {
-    let mut path = io::buffer();
-    match rt.arg(1, &mut path) {
-        Ok(n) => load_bundle(rt, &path[..n]),
-        Err(error) => {
-            names::fail(rt, b"BUNDLE", error);
-            UNREAD
-        }
-    }
-}
-
-// Loads the bundle.
-fn load_bundle(rt: &HostRuntime, path: &[u8]) -> u32 {
-    let mut bundle = bundle_room();
-    let loaded = files::load(rt, path, &mut bundle);
-    if !loaded.whole {
-        return UNREAD;
-    }
-    let size = loaded.size;
-    open(rt, path, &bundle[..size])
-}
-
-// Opens the bundle and builds its curves.
-fn open(rt: &HostRuntime, name: &[u8], bundle: &[u8]) -> u32 {
-    let opened = bundle::open(bundle);
-    if !opened.is_ok() {
-        return refuse(rt, name, opened);
-    }
+    let bundle_name = names::name(rt, 1, b"BUNDLE")?;
+    let bundle = files::load(rt, &bundle_name, BUNDLE_MOST)?;
+    judge(rt, &bundle_name, bundle::open(&bundle))?;
     let mut curves = curves_room();
-    let built = curves::build(bundle, &mut curves);
-    if !built.is_ok() {
-        return refuse(rt, name, built);
+    judge(rt, &bundle_name, curves::build(&bundle, &mut curves))?;
+
+    let decays_name = names::name(rt, 2, b"DECAYS")?;
+    let decays = files::load(rt, &decays_name, DECAYS_MOST)?;
+    let state_name = names::name(rt, 3, b"STATE")?;
+    let mut block = load_state(rt, &state_name)?;
+    judge(rt, &decays_name, transients::judge_decays(&decays))?;
+
+    let lent = Lent {
+        bundle: &bundle,
+        curves: &curves,
+        decays: &decays,
+    };
+    let played = render(rt, lent, &mut block);
+    if !matches!(played, Err(Stop::Unwritten)) {
+        files::save(rt, &state_name, &block)?;
     }
-    find_decays(rt, bundle, &curves)
+    played
 }
 
-// Prints the line of a file that is refused before the first script, and answers the number.
-fn refuse(rt: &HostRuntime, name: &[u8], answer: Answer) -> u32 {
+// Stops where a file is refused before the first script.
+fn judge(rt: &HostRuntime, name: &[u8], answer: Answer) -> Result<(), Stop> {
+    if answers::is_done(answer) {
+        Ok(())
+    } else {
+        Err(refuse(rt, name, answer))
+    }
+}
+
+// Prints the line of a file that is refused.
+fn refuse(rt: &HostRuntime, name: &[u8], answer: Answer) -> Stop {
     let mut line = line_room();
     let end = bounce_lines::refused_line(&mut line, name, answer);
     let _ = rt.write_all(&line[..end]);
-    answers::report(answer).number
+    Stop::Refused(answers::report(answer).number)
 }
 
-// Finds the decays' name.
-fn find_decays(rt: &HostRuntime, bundle: &[u8], curves: &[u8]) -> u32 {
-    let mut path = io::buffer();
-    match rt.arg(2, &mut path) {
-        Ok(n) => load_decays(rt, bundle, curves, &path[..n]),
-        Err(error) => {
-            names::fail(rt, b"DECAYS", error);
-            UNREAD
-        }
+// Loads the state, a valid one. One of 24 bytes has no charges yet, and is widened.
+fn load_state(rt: &HostRuntime, name: &[u8]) -> Result<Vec<u8>, Stop> {
+    let mut block = files::load_state(rt, name)?;
+    if block.len() == State::NARROW_BYTES {
+        block = widen(rt, name, &block)?;
     }
-}
-
-// Loads the decays, which are judged after the state.
-fn load_decays(rt: &HostRuntime, bundle: &[u8], curves: &[u8], path: &[u8]) -> u32 {
-    let mut decays = decays_room();
-    let loaded = files::load(rt, path, &mut decays);
-    if !loaded.whole {
-        return UNREAD;
+    match State::decode(&block) {
+        DecodedState::Valid(_) => Ok(block),
+        DecodedState::Invalid => Err(refuse(rt, name, Answer::Argument)),
     }
-    let size = loaded.size;
-    find_state(rt, bundle, curves, path, &decays[..size])
-}
-
-// Finds the state's name.
-fn find_state(
-    rt: &HostRuntime,
-    bundle: &[u8],
-    curves: &[u8],
-    decays_name: &[u8],
-    decays: &[u8],
-) -> u32 {
-    let mut path = io::buffer();
-    match rt.arg(3, &mut path) {
-        Ok(n) => load_state(rt, bundle, curves, decays_name, decays, &path[..n]),
-        Err(error) => {
-            names::fail(rt, b"STATE", error);
-            UNREAD
-        }
-    }
-}
-
-// Loads the state. One of 24 bytes has no charges yet.
-fn load_state(
-    rt: &HostRuntime,
-    bundle: &[u8],
-    curves: &[u8],
-    decays_name: &[u8],
-    decays: &[u8],
-    path: &[u8],
-) -> u32 {
-    let mut block = block_room();
-    let loaded = files::load_state(rt, path, &mut block);
-    if !loaded.whole {
-        return UNREAD;
-    }
-    let size = loaded.size;
-    if size == State::NARROW_BYTES {
-        return widen(
-            rt,
-            bundle,
-            curves,
-            decays_name,
-            decays,
-            path,
-            &block[..size],
-        );
-    }
-    judge(
-        rt,
-        bundle,
-        curves,
-        decays_name,
-        decays,
-        path,
-        &mut block[..size],
-    )
 }
 
 // Widens a block that has no charges.
-fn widen(
-    rt: &HostRuntime,
-    bundle: &[u8],
-    curves: &[u8],
-    decays_name: &[u8],
-    decays: &[u8],
-    path: &[u8],
-    narrow: &[u8],
-) -> u32 {
-    let mut block = [0u8; 68];
+fn widen(rt: &HostRuntime, name: &[u8], narrow: &[u8]) -> Result<Vec<u8>, Stop> {
+    let mut block = [0; 68];
     if !State::widen(narrow, &mut block) {
-        return refuse(rt, path, Err(Refusal::Argument));
+        return Err(refuse(rt, name, Answer::Argument));
     }
-    judge(rt, bundle, curves, decays_name, decays, path, &mut block)
-}
-
-// Judges the state and then the decays, before anything is written.
-fn judge(
-    rt: &HostRuntime,
-    bundle: &[u8],
-    curves: &[u8],
-    decays_name: &[u8],
-    decays: &[u8],
-    path: &[u8],
-    block: &mut [u8],
-) -> u32 {
-    let Some(_) = State::decode(block) else {
-        return refuse(rt, path, Err(Refusal::Argument));
-    };
-    let judged = transients::judge_decays(decays);
-    if !judged.is_ok() {
-        return refuse(rt, decays_name, judged);
-    }
-    keep(rt, bundle, curves, decays, path, block)
-}
-
-// Saves the state that the scripts leave, but not where samples may be missing from the output.
-fn keep(
-    rt: &HostRuntime,
-    bundle: &[u8],
-    curves: &[u8],
-    decays: &[u8],
-    path: &[u8],
-    block: &mut [u8],
-) -> u32 {
-    let status = render(rt, bundle, curves, decays, block);
-    if status == UNWRITTEN {
-        return status;
-    }
-    if files::save(rt, path, block) {
-        return status;
-    }
-    UNWRITTEN
-}
-
-// Finds the output's name.
-fn render(rt: &HostRuntime, bundle: &[u8], curves: &[u8], decays: &[u8], block: &mut [u8]) -> u32 {
-    let mut path = io::buffer();
-    match rt.arg(4, &mut path) {
-        Ok(n) => fill_output(rt, bundle, curves, decays, block, &path[..n]),
-        Err(error) => {
-            names::fail(rt, b"OUTPUT", error);
-            UNWRITTEN
-        }
-    }
+    files::copied(rt, name, &block)
 }
 
 // Empties the output, or makes it, and plays the scripts into it.
-fn fill_output(
-    rt: &HostRuntime,
-    bundle: &[u8],
-    curves: &[u8],
-    decays: &[u8],
-    block: &mut [u8],
-    path: &[u8],
-) -> u32 {
-    let mut output = match files::create(rt, path) {
-        Ok(output) => output,
-        Err(error) => {
-            files::fail(rt, path, error);
-            return UNWRITTEN;
-        }
-    };
-    let status = play(rt, bundle, curves, decays, block, &mut output);
-    if let Err(error) = files::settle(&output) {
-        files::fail(rt, path, error);
-        return UNWRITTEN;
-    }
-    status
+fn render(rt: &HostRuntime, lent: Lent<'_>, block: &mut [u8]) -> Result<(), Stop> {
+    let name = names::name(rt, 4, b"OUTPUT").map_err(|_| Stop::Unwritten)?;
+    let mut output = files::create(rt, &name).map_err(|why| files::unwritten(rt, &name, why))?;
+    let played = play(rt, lent, block, &mut output);
+    files::settle(&output).map_err(|why| files::unwritten(rt, &name, why))?;
+    played
 }
 
 // The scripts in order, up to the first that is not done.
-fn play(
-    rt: &HostRuntime,
-    bundle: &[u8],
-    curves: &[u8],
-    decays: &[u8],
-    block: &mut [u8],
-    output: &mut File,
-) -> u32 {
+fn play(rt: &HostRuntime, lent: Lent<'_>, block: &mut [u8], output: &mut File) -> Result<(), Stop> {
     for i in 5..names::arg_count(rt) {
-        let status = play_argument(rt, bundle, curves, decays, block, i, output);
-        if status != 0 {
-            return status;
-        }
+        let name = names::name(rt, i, b"SCRIPT")?;
+        let script = files::load(rt, &name, SCRIPT_MOST)?;
+        play_script(rt, lent, block, &name, &script, output)?;
     }
-    0
-}
-
-// Finds a script's name.
-fn play_argument(
-    rt: &HostRuntime,
-    bundle: &[u8],
-    curves: &[u8],
-    decays: &[u8],
-    block: &mut [u8],
-    i: usize,
-    output: &mut File,
-) -> u32 {
-    let mut path = io::buffer();
-    match rt.arg(i, &mut path) {
-        Ok(n) => play_file(rt, bundle, curves, decays, block, &path[..n], output),
-        Err(error) => {
-            names::fail(rt, b"SCRIPT", error);
-            UNREAD
-        }
-    }
-}
-
-// Loads a script and plays it.
-fn play_file(
-    rt: &HostRuntime,
-    bundle: &[u8],
-    curves: &[u8],
-    decays: &[u8],
-    block: &mut [u8],
-    path: &[u8],
-    output: &mut File,
-) -> u32 {
-    let mut script = script_room();
-    let loaded = files::load(rt, path, &mut script);
-    if !loaded.whole {
-        return UNREAD;
-    }
-    let size = loaded.size;
-    play_script(
-        rt,
-        bundle,
-        curves,
-        decays,
-        block,
-        path,
-        &script[..size],
-        output,
-    )
+    Ok(())
 }
 
 // Runs a script, writes its samples and prints its line.
 fn play_script(
     rt: &HostRuntime,
-    bundle: &[u8],
-    curves: &[u8],
-    decays: &[u8],
+    lent: Lent<'_>,
     block: &mut [u8],
     name: &[u8],
     script: &[u8],
     output: &mut File,
-) -> u32 {
+) -> Result<(), Stop> {
     let mut samples = sample_room();
     let mut line = line_room();
     let stepped = bounce_step::step(
-        bundle,
-        curves,
+        lent.bundle,
+        lent.curves,
         block,
-        decays,
+        lent.decays,
         name,
         script,
         &mut samples,
@@ -339,35 +160,29 @@ fn play_script(
     );
     let size = stepped.samples;
     let end = stepped.line;
-    if let Err(error) = output.write_all(&samples[..size]) {
-        files::fail(rt, b"OUTPUT", error);
-        return UNWRITTEN;
-    }
+    output
+        .write_all(&samples[..size])
+        .map_err(|why| files::unwritten(rt, b"OUTPUT", why))?;
     let _ = rt.write_all(&line[..end]);
-    stepped.number
+    match stepped.number {
+        0 => Ok(()),
+        number => Err(Stop::Refused(number)),
+    }
 }
 
-// ---- buffers, 7.9 of the 8 MiB of stack. One that is filled from a file has a byte more than the longest that is right, so that a longer one is refused by its length.
+// ---- the most bytes that are read of a file: one more than the longest that is right has, so that a longer one is refused by its length
 
-fn bundle_room() -> [u8; 6127737] {
-    [0; 6127737]
-}
+const BUNDLE_MOST: usize = 6127737;
+
+const DECAYS_MOST: usize = 25;
+
+// 8 bytes, and 12 for each of 65,536 events.
+const SCRIPT_MOST: usize = 786441;
+
+// ---- buffers that the library fills: it allocates nothing, so each is lent
 
 fn curves_room() -> [u8; 254076] {
     [0; 254076]
-}
-
-fn decays_room() -> [u8; 25] {
-    [0; 25]
-}
-
-fn block_room() -> [u8; 69] {
-    [0; 69]
-}
-
-// 8 bytes, and 12 for each of 65,536 events.
-fn script_room() -> [u8; 786441] {
-    [0; 786441]
 }
 
 // 16 bytes for each of 65,536 samples.
@@ -376,6 +191,6 @@ fn sample_room() -> [u8; 1048576] {
 }
 
 // A path has at most 4,096 bytes, and what is said beside it less than 512.
-fn line_room() -> [u8; 4608] {
+pub(crate) fn line_room() -> [u8; 4608] {
     [0; 4608]
 }

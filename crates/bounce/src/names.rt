@@ -1,7 +1,5 @@
-// The names of the files, which are the program's arguments.
-ghost use Rattle.io.specs.Counts.{IsPrefixLen};
-
-use crate::files;
+// The names of the files, which are the program's arguments. std's `Env` fills a lent buffer with one, and answers its length.
+use crate::{Stop, files, line_room};
 use std::env::{Env, FillError};
 use std::io::{Error, Print};
 
@@ -20,61 +18,57 @@ pub(crate) fn arg_count(rt: &HostRuntime) -> usize {
     usize::MAX
 }
 
-// Says why an argument is not there.
-pub(crate) fn fail(rt: &HostRuntime, what: &[u8], why: FillError) {
-    let code = match why {
-        FillError::NotPresent => EINVAL,
-        FillError::TooLong => ENAMETOOLONG,
-    };
-    files::fail(rt, what, Error::from_raw_os_error(code));
-}
-
-// Whether OUTPUT, STATE and STATE.new have names of their own.
-pub(crate) fn are_apart(rt: &HostRuntime) -> bool {
-    !(is_argument_taken(rt, 4) || is_argument_taken(rt, 3) || is_beside_taken(rt))
-}
-
-// Puts an argument at the start of a buffer. Answers its length, or 0 where it is missing or longer than the buffer.
-fn arg(rt: &HostRuntime, i: usize, path: &mut [u8]) -> usize
-    ensures { IsPrefixLen result path.new }
-{
-    match rt.arg(i, path) {
-        Ok(n) => n,
-        Err(_) => 0,
+// An argument. Where it is not there, it says why.
+pub(crate) fn name(rt: &HostRuntime, i: usize, what: &[u8]) -> Result<Vec<u8>, Stop> {
+    let mut path = io::buffer();
+    match rt.arg(i, &mut path) {
+        Ok(n) => files::copied(rt, what, &path[..n]),
+        Err(FillError::NotPresent) => Err(missing(rt, what, EINVAL)),
+        Err(FillError::TooLong) => Err(missing(rt, what, ENAMETOOLONG)),
     }
 }
 
-// Whether another argument has an argument's name.
-fn is_argument_taken(rt: &HostRuntime, own: usize) -> bool {
+fn missing(rt: &HostRuntime, what: &[u8], code: i32) -> Stop {
+    files::unread(rt, what, Error::from_raw_os_error(code))
+}
+
+// Stops where OUTPUT, STATE or STATE.new has another argument's name. One that is missing, or longer than the buffer, is taken for an empty one.
+pub(crate) fn judge_apart(rt: &HostRuntime) -> Result<(), Stop> {
+    judge_argument(rt, 4)?;
+    judge_argument(rt, 3)?;
+    judge_beside(rt)
+}
+
+fn judge_argument(rt: &HostRuntime, own: usize) -> Result<(), Stop> {
     let mut path = io::buffer();
-    let n = arg(rt, own, &mut path);
-    is_taken(rt, &path[..n], own)
+    let n = rt.arg(own, &mut path).unwrap_or(0);
+    judge_name(rt, &path[..n], own)
 }
 
-// Whether an argument has the name STATE.new.
-fn is_beside_taken(rt: &HostRuntime) -> bool {
+// The name STATE.new, which is no argument's own.
+fn judge_beside(rt: &HostRuntime) -> Result<(), Stop> {
     let mut state = io::buffer();
-    let n = arg(rt, 3, &mut state);
-    let mut beside = [0u8; 4608];
+    let n = rt.arg(3, &mut state).unwrap_or(0);
+    let mut beside = line_room();
     let m = bounce_lines::beside(&mut beside, &state[..n]);
-    is_taken(rt, &beside[..m], 0)
+    judge_name(rt, &beside[..m], 0)
 }
 
-// Whether an argument other than its own has a name. Where one has, it says so.
-fn is_taken(rt: &HostRuntime, name: &[u8], own: usize) -> bool {
+// Stops where an argument other than its own has a name, and says so.
+fn judge_name(rt: &HostRuntime, name: &[u8], own: usize) -> Result<(), Stop> {
     for i in 1..arg_count(rt) {
-        if (i != own) & has_name(rt, i, name) {
+        if i != own && has_name(rt, i, name) {
             let _ = rt.write_all(name);
             let _ = rt.print(": is written, so no other file may have this name\n");
-            return true;
+            return Err(Stop::Unread);
         }
     }
-    false
+    Ok(())
 }
 
 // Whether an argument is this name.
 fn has_name(rt: &HostRuntime, i: usize, name: &[u8]) -> bool {
     let mut path = io::buffer();
-    let n = arg(rt, i, &mut path);
+    let n = rt.arg(i, &mut path).unwrap_or(0);
     bounce_lines::same_name(&path[..n], name)
 }

@@ -1,8 +1,9 @@
 -- What `bounce` says: each answer in words, the line of a refused file, and the line of a script.
-use Rattle.std.specs.Prelude.{ℕ, cond, List, ◌++◌, Err, is_ok}
+use Rattle.std.specs.Prelude.{ℕ, cond, List, ◌++◌}
 use Rattle.answers.specs.declared.Buffer.TheVariants.{Bundle, Curves}
-use Rattle.answers.specs.declared.Refusal.TheVariants.{BundleLength, Header, Entry, CurvesLength, InputNotFinite, Domain, Script, OutputLength, Argument, Sources, Decays}
-use Rattle.answers.specs.Answers.{number_of, Answer, done}
+use Rattle.answers.specs.declared.Answer.{Answer}
+use Rattle.answers.specs.declared.Answer.TheVariants.{Done, BundleLength, Header, Entry, CurvesLength, InputNotFinite, Domain, Script, OutputLength, Argument, Sources, Decays}
+use Rattle.answers.specs.Answers.{number_of, is_done_of}
 use Rattle.wire.specs.Text.{ascii}
 use Rattle.text.specs.Text.{decimal_of}
 
@@ -12,7 +13,7 @@ placed_of words place = words ++ ascii ", at byte " ++ decimal_of place
 
 -- The causes of the table of refusals (docs/FORMATS.md), with the buffer and the place where it names them.
 unfoldable pub words_of : Answer → List ℕ
-words_of done = ascii "nothing is refused"
+words_of Done = ascii "nothing is refused"
 words_of BundleLength = ascii "the bundle is not 6,127,736 bytes long"
 words_of (Header place) = placed_of (ascii "the bundle's header differs") place
 words_of (Entry Bundle place) = placed_of (ascii "an entry of the bundle is unusable") place
@@ -42,6 +43,6 @@ refused_line_of name answer = name ++ ascii ": refused: " ++ refusal_of answer +
 -- `song.scr: stopped after 17 events, 12 samples: 5, the input sum or the source energy is not finite`, and a line end.
 unfoldable pub script_line_of : List ℕ → Answer → ℕ → ℕ → List ℕ
 script_line_of name answer events samples =
-    cond (is_ok answer)
+    cond (is_done_of answer)
     (name ++ ascii ": done, " ++ counts_of events samples ++ ascii "\n")
     (name ++ ascii ": stopped after " ++ counts_of events samples ++ ascii ": " ++ refusal_of answer ++ ascii "\n")

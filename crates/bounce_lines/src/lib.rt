@@ -13,6 +13,7 @@ pub use lines::{refused_line, script_line};
 use text::push;
 
 // The name of the file that is written beside another.
+#[tactic(auto, using(text::proofs::Laws::end_then, text::proofs::Laws::put_then))]
 pub fn beside(out: &mut [u8], path: &[u8]) -> usize
     ensures prefix_len { IsPrefixLen result out.new }
     ensures value { result ≡ grown_end out.old 0 (path.now ++ ascii ".new") }
@@ -23,18 +24,9 @@ pub fn beside(out: &mut [u8], path: &[u8]) -> usize
 }
 
 // Whether two names are the same, byte for byte.
+#[tactic(auto, using(crate::proofs::Laws::same_is))]
 pub fn same_name(a: &[u8], b: &[u8]) -> bool
     ensures { result ≡ same_name_of a.now b.now }
 {
-    if a.len() != b.len() {
-        return false;
-    }
-    let mut i = 0;
-    while i < a.len() {
-        if a[i] != b[i] {
-            return false;
-        }
-        i += 1;
-    }
-    true
+    a == b
 }

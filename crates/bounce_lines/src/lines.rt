@@ -8,6 +8,7 @@ use answers::{Answer, Buffer};
 use text::{push, push_number};
 
 // The text with words and a place after it.
+#[tactic(auto, using(text::proofs::Laws::end_then, text::proofs::Laws::put_then), unfolding(crate::specs::Lines::placed_of))]
 fn push_placed(out: &mut [u8], at: usize, words: &[u8], place: u32) -> usize
     requires { at ≤ length out.old }
     ensures prefix_len { IsPrefixLen result out.new }
@@ -20,6 +21,7 @@ fn push_placed(out: &mut [u8], at: usize, words: &[u8], place: u32) -> usize
 }
 
 // The text with an answer's words after it: a sentence for each of the eleven refusals.
+#[tactic(auto, unfolding(crate::specs::Lines::words_of))]
 fn push_words(out: &mut [u8], at: usize, answer: Answer) -> usize
     requires { at ≤ length out.old }
     ensures prefix_len { IsPrefixLen result out.new }
@@ -27,41 +29,42 @@ fn push_words(out: &mut [u8], at: usize, answer: Answer) -> usize
     ensures out_after { out.new ≡ grown out.old at (words_of answer) }
 {
     match answer {
-        Ok(()) => push(out, at, b"nothing is refused"),
-        Err(Refusal::BundleLength) => push(out, at, b"the bundle is not 6,127,736 bytes long"),
-        Err(Refusal::Header) { place } => push_placed(out, at, b"the bundle's header differs", place),
-        Err(Refusal::Entry) { buffer, place } => match buffer {
+        Answer::Done => push(out, at, b"nothing is refused"),
+        Answer::BundleLength => push(out, at, b"the bundle is not 6,127,736 bytes long"),
+        Answer::Header { place } => push_placed(out, at, b"the bundle's header differs", place),
+        Answer::Entry { buffer, place } => match buffer {
             Buffer::Bundle => push_placed(out, at, b"an entry of the bundle is unusable", place),
             Buffer::Curves => push_placed(out, at, b"an entry of the curves is unusable", place),
         },
-        Err(Refusal::CurvesLength) => push(out, at, b"the curve buffer is not 254,076 bytes long"),
-        Err(Refusal::InputNotFinite) => push(
+        Answer::CurvesLength => push(out, at, b"the curve buffer is not 254,076 bytes long"),
+        Answer::InputNotFinite => push(
             out,
             at,
             b"the input sum or the source energy is not finite",
         ),
-        Err(Refusal::Domain) => push(out, at, b"a number would be outside the finite domain"),
-        Err(Refusal::Script) => push(
+        Answer::Domain => push(out, at, b"a number would be outside the finite domain"),
+        Answer::Script => push(
             out,
             at,
             b"the script's length is not 8 + 12 x count, or its offset, its count, an event's kind or its zero bytes are wrong",
         ),
-        Err(Refusal::OutputLength) => push(
+        Answer::OutputLength => push(
             out,
             at,
             b"the output is shorter than 16 bytes a sample event",
         ),
-        Err(Refusal::Argument) => push(out, at, b"the state block is invalid"),
-        Err(Refusal::Sources) => push(
+        Answer::Argument => push(out, at, b"the state block is invalid"),
+        Answer::Sources => push(
             out,
             at,
             b"a voice, or a number lent beside the voices, is invalid",
         ),
-        Err(Refusal::Decays) => push(out, at, b"the decays are not six numbers from 0 to 1"),
+        Answer::Decays => push(out, at, b"the decays are not six numbers from 0 to 1"),
     }
 }
 
 // The text with the events done and the samples written after it.
+#[tactic(auto, using(text::proofs::Laws::end_then, text::proofs::Laws::put_then), unfolding(crate::specs::Lines::counts_of))]
 fn push_counts(out: &mut [u8], at: usize, events: usize, samples: usize) -> usize
     requires { at ≤ length out.old }
     ensures prefix_len { IsPrefixLen result out.new }
@@ -75,6 +78,7 @@ fn push_counts(out: &mut [u8], at: usize, events: usize, samples: usize) -> usiz
 }
 
 // The text with a refusal's number and words after it.
+#[tactic(auto, using(text::proofs::Laws::end_then, text::proofs::Laws::put_then), unfolding(crate::specs::Lines::refusal_of))]
 fn push_refusal(out: &mut [u8], at: usize, answer: Answer) -> usize
     requires { at ≤ length out.old }
     ensures prefix_len { IsPrefixLen result out.new }
@@ -87,6 +91,7 @@ fn push_refusal(out: &mut [u8], at: usize, answer: Answer) -> usize
 }
 
 // The line of a file that is refused before the first script, from the buffer's start. Answers where it ends.
+#[tactic(auto, using(text::proofs::Laws::end_then, text::proofs::Laws::put_then), unfolding(crate::specs::Lines::refused_line_of))]
 pub fn refused_line(out: &mut [u8], name: &[u8], answer: Answer) -> usize
     ensures prefix_len { IsPrefixLen result out.new }
     ensures value { result ≡ grown_end out.old 0 (refused_line_of name.now answer) }
@@ -99,6 +104,7 @@ pub fn refused_line(out: &mut [u8], name: &[u8], answer: Answer) -> usize
 }
 
 // The line of a script, from the buffer's start. Answers where it ends.
+#[tactic(auto, using(text::proofs::Laws::end_then, text::proofs::Laws::put_then), unfolding(crate::specs::Lines::script_line_of))]
 pub fn script_line(
     out: &mut [u8],
     name: &[u8],
@@ -111,7 +117,7 @@ pub fn script_line(
     ensures out_after { out.new ≡ grown out.old 0 (script_line_of name.now answer events samples) }
 {
     let n = push(out, 0, name);
-    if answer.is_ok() {
+    if answers::is_done(answer) {
         let n = push(out, n, b": done, ");
         let n = push_counts(out, n, events, samples);
         return push(out, n, b"\n");

@@ -15,6 +15,7 @@ pub struct Stepped {
 }
 
 // Runs a script from the state in its block. The samples stand at the output's start, the state after them in the block, and what is said of it in the line.
+#[tactic(auto, using(crate::proofs::Laws::samples_fit))]
 pub fn step(
     bundle: &[u8],
     curves: &[u8],

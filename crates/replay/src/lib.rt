@@ -3,8 +3,7 @@
 
 mod words;
 
-ghost use Rattle.std.specs.Prelude.{◌≡◌, length};
-ghost use Rattle.io.specs.Counts.{IsPrefixLen};
+ghost use Rattle.std.specs.Prelude.{◌≡◌, ◌+◌, ◌<◌, ◌≤◌, [], length, take, drop, vec_len};
 ghost use Rattle.replay.specs.Records.{record_count_of, record_of};
 
 use std::fs::{File, Files};
@@ -16,123 +15,119 @@ pub use words::{
 // ---- a file
 
 // More than any file of records has.
-pub fn room() -> [u8; 1048576]
-    ensures { 1048576 ≡ length result }
+pub const MOST: usize = 1048576;
+
+// The bytes of a file, at most so many: none where it is missing, and those that came where a read or an allocation fails.
+pub fn load<R: Alloc + Files>(rt: &R, file: &str, most: usize) -> Vec<u8, R::A>
+    ensures { vec_len result ≤ most }
 {
-    [0; 1048576]
+    let mut bytes = Vec::new(rt.alloc());
+    if let Ok(opened) = File::open(rt, file) {
+        let _ = opened.take(most as u64).read_to_end(&mut bytes);
+    }
+    // It has no more; std's contracts say so of readers whose bytes are known.
+    bytes.truncate(most);
+    bytes
 }
 
-// Fills bytes from the start of a file, and answers how many came: none where it is missing.
-pub fn load(rt: &impl Files, file: &[u8], bytes: &mut [u8]) -> usize
-    ensures { IsPrefixLen result bytes.new }
+// So many bytes from a place on, and none where they are not all there.
+pub fn part(bytes: &[u8], from: usize, count: usize) -> &[u8]
+    ensures there { from + count ≤ length bytes.now → result.now ≡ take count (drop from bytes.now) }
+    ensures missing { length bytes.now < from + count → result.now ≡ [] }
 {
-    let Ok(path) = str::from_utf8(file) else {
-        return 0;
-    };
-    let Ok(mut opened) = File::open(rt, path) else {
-        return 0;
-    };
-    read_full(&mut opened, bytes)
+    let rest = bytes.get(from..).unwrap_or(&[]);
+    rest.get(..count).unwrap_or(&[])
 }
 
-// Reads until the bytes are full, the file ends or a read fails, and answers how many bytes came.
-fn read_full(file: &mut impl Read, bytes: &mut [u8]) -> usize
-    ensures { IsPrefixLen result bytes.new }
-{
-    let mut done = 0;
-    while done < bytes.len() {
-        let Ok(n) = file.read(&mut bytes[done..]) else {
-            break;
-        };
-        if n == 0 {
-            break;
+// ---- its records
+
+// The records in a file's bytes, each a number of words.
+#[derive(Clone, Copy)]
+pub struct Records<'a> {
+    pub bytes: &'a [u8],
+    pub words: usize,
+}
+
+impl<'a> Records<'a> {
+    // How many whole records the bytes hold.
+    #[tactic(auto, unfolding(crate::specs::Records::record_count_of))]
+    pub fn count(&self) -> usize
+        ensures { result ≡ record_count_of (length self.now.bytes.now) self.now.words }
+    {
+        if self.words == 0 {
+            return 0;
         }
-        done += n;
+        self.bytes.len() / 4 / self.words
     }
-    done
+
+    // The record of a number, and no bytes where there is none.
+    #[tactic(auto, unfolding(crate::specs::Records::record_of))]
+    pub fn get(&self, i: usize) -> &'a [u8]
+        ensures { result.now ≡ record_of self.now.bytes.now self.now.words i }
+    {
+        if i < self.count() {
+            let start = 4 * (self.words * i);
+            let end = start + 4 * self.words;
+            return &self.bytes[start..end];
+        }
+        &[]
+    }
+
+    // Whether the bytes end within a record.
+    fn is_short(&self) -> bool {
+        self.words == 0 || self.bytes.len() % 4 != 0 || self.bytes.len() / 4 % self.words != 0
+    }
 }
 
-// ---- its records, each a number of words
-
-// How many whole records the bytes hold.
-pub fn count(records: &[u8], words: usize) -> usize
-    ensures { result ≡ record_count_of (length records.now) words }
+// Replays a file whose records have a number of words: prints the line of how many agree, by a test of one.
+pub fn replay_file<R: Alloc + Files + Print, F: FnMut(&[u8]) -> bool>(
+    rt: &R,
+    file: &str,
+    words: usize,
+    mut agrees: F,
+)
+    requires { F.IsAlwaysCallable agrees }
+    ensures { result ≡ tt }
 {
-    if words == 0 {
-        return 0;
+    let bytes = load(rt, file, MOST);
+    let records = Records {
+        bytes: &bytes,
+        words,
+    };
+    let mut agreed = 0;
+    for i in 0..records.count() {
+        if agrees(records.get(i)) {
+            agreed += 1;
+        }
     }
-    records.len() / 4 / words
-}
-
-// The record of a number, and no bytes where there is none.
-pub fn record(records: &[u8], words: usize, i: usize) -> &[u8]
-    ensures { result.now ≡ record_of records.now words i }
-{
-    if i < count(records, words) {
-        let start = 4 * (words * i);
-        let end = start + 4 * words;
-        return &records[start..end];
-    }
-    &records[0..0]
-}
-
-// Whether the bytes end within a record.
-fn is_short(records: &[u8], words: usize) -> bool {
-    if words == 0 {
-        return true;
-    }
-    (records.len() % 4 != 0) | (records.len() / 4 % words != 0)
+    print_line(rt, file, &records, agreed);
 }
 
 // ---- its line. What is printed is compared with the programs' files `stdout`; the functions yield nothing.
 
 // Prints the line of one file: its name, how many of its records agree and how many it has; also where it is missing, or ends within a record.
-pub fn print_line(rt: &impl Print, file: &[u8], records: &[u8], words: usize, agreed: usize)
+fn print_line(rt: &impl Print, file: &str, records: &Records<'_>, agreed: usize)
     ensures { result ≡ tt }
 {
-    print_title(rt, file);
-    if records.len() == 0 {
-        print(rt, b" missing\n");
+    let title = title_of(file);
+    if records.bytes.is_empty() {
+        let _ = println!(rt; "{title} missing");
         return;
     }
-    print(rt, b" ");
-    print_number(rt, agreed);
-    print(rt, b" of ");
-    print_number(rt, count(records, words));
-    if is_short(records, words) {
-        print(rt, b", short");
-    }
-    print(rt, b"\n");
+    let count = records.count();
+    let short = if records.is_short() { ", short" } else { "" };
+    let _ = println!(rt; "{title} {agreed} of {count}{short}");
 }
 
 // Prints the line of a file of pieces: its name, how many of them agree and how many it has.
-pub fn print_pieces(rt: &impl Print, file: &[u8], pieces: usize, agreed: usize)
+pub fn print_pieces(rt: &impl Print, file: &str, pieces: usize, agreed: usize)
     ensures { result ≡ tt }
 {
-    print_title(rt, file);
-    print(rt, b" ");
-    print_number(rt, agreed);
-    print(rt, b" of ");
-    print_number(rt, pieces);
-    print(rt, b"\n");
+    let title = title_of(file);
+    let _ = println!(rt; "{title} {agreed} of {pieces}");
 }
 
-pub fn print(rt: &impl Print, text: &[u8])
-    ensures { result ≡ tt }
-{
-    let _ = rt.write_all(text);
-}
-
-pub fn print_number(rt: &impl Print, n: usize)
-    ensures { result ≡ tt }
-{
-    let _ = rt.print(n);
-}
-
-// A file's name without its last four bytes, .bin.
-fn print_title(rt: &impl Print, file: &[u8]) {
-    if 4 <= file.len() {
-        let end = file.len() - 4;
-        print(rt, &file[0..end]);
-    }
+// A file's name without .bin.
+fn title_of(file: &str) -> &str {
+    file.strip_suffix(".bin").unwrap_or(file)
 }

@@ -7,6 +7,8 @@ ghost use mir.Val.{to_z, bool_byte};
 ghost use Rattle.wire.specs.Wire.{u32_at};
 ghost use Rattle.replay.specs.Records.{u64_at, has_floats};
 
+use std::num::{f64_from_bits_with_nan, f64_to_bits_with_nan};
+
 // ---- reading
 
 pub fn size_at(r: &[u8], place: usize) -> usize
@@ -18,21 +20,17 @@ pub fn size_at(r: &[u8], place: usize) -> usize
 pub fn i32_at(r: &[u8], place: usize) -> i32
     ensures { result ≡ to_z w32 (u32_at r.now place) }
 {
-    let bits = wire::u32_at(r, place);
-    if bits < 0x8000_0000 {
-        bits as i32
-    } else {
-        -1 - ((0xffff_ffff - bits) as i32)
-    }
+    wire::u32_at(r, place).cast_signed()
 }
 
-// Two words, the low one first.
+// Two words, the low one first. Not `from_le_bytes` of eight bytes: each word reads as 0 where it alone is not all there.
+#[tactic(auto, unfolding(crate::specs::Records::u64_at))]
 pub fn u64_at(r: &[u8], place: usize) -> u64
     ensures { result ≡ u64_at r.now place }
 {
     if place < r.len() {
-        let low = wire::u32_at(r, place) as u64;
-        let high = wire::u32_at(r, place + 4) as u64;
+        let low = u64::from(wire::u32_at(r, place));
+        let high = u64::from(wire::u32_at(r, place + 4));
         return low + high * 0x1_0000_0000;
     }
     0
@@ -42,12 +40,7 @@ pub fn u64_at(r: &[u8], place: usize) -> u64
 pub fn f64_at(r: &[u8], place: usize) -> f64
     ensures { result ≡ of_bits binary64 (u64_at r.now place) }
 {
-    let bits = u64_at(r, place);
-    if bits % 0x8000_0000_0000_0000 <= 0x7ff0_0000_0000_0000 {
-        f64::from_bits(bits)
-    } else {
-        0.0 / 0.0
-    }
+    f64_from_bits_with_nan(u64_at(r, place))
 }
 
 // ---- comparing by bits, every NaN counting as one
@@ -56,11 +49,7 @@ pub fn f64_at(r: &[u8], place: usize) -> f64
 pub fn double_bits(x: f64) -> u64
     ensures { result ≡ to_bits binary64 x }
 {
-    if x == x {
-        f64::to_bits(x)
-    } else {
-        0x7ff8_0000_0000_0000
-    }
+    f64_to_bits_with_nan(x)
 }
 
 pub fn has(r: &[u8], place: usize, x: f32) -> bool
@@ -84,24 +73,21 @@ pub fn has_size(r: &[u8], place: usize, n: usize) -> bool
 pub fn has_flag(r: &[u8], place: usize, flag: bool) -> bool
     ensures { result ≡ eqb (u32_at r.now place) (bool_byte flag) }
 {
-    wire::u32_at(r, place) == flag as u32
+    wire::u32_at(r, place) == u32::from(flag)
 }
 
 // Whether the words at a place are those of floats side by side, at most 64.
+#[tactic(auto, unfolding(crate::specs::Records::has_floats))]
 pub fn has_floats(r: &[u8], place: usize, xs: &[f32]) -> bool
     ensures { result ≡ has_floats r.now place xs.now }
 {
-    if r.len() < place {
+    if r.len() < place || 64 < xs.len() {
         return false;
     }
-    if 64 < xs.len() {
-        return false;
+    for (i, &x) in xs.iter().enumerate() {
+        if !has(r, place + 4 * i, x) {
+            return false;
+        }
     }
-    let mut all = true;
-    let mut i = 0;
-    while i < xs.len() {
-        all = all & has(r, place + 4 * i, xs[i]);
-        i += 1;
-    }
-    all
+    true
 }

@@ -48,6 +48,7 @@ fn push_sheet(out: &mut [u8]) -> usize
 }
 
 // The text with a pair's line after it.
+#[tactic(auto, using(text::proofs::Laws::end_then, text::proofs::Laws::put_then), unfolding(crate::specs::Sheet::pair_line_of))]
 fn push_pair_line(out: &mut [u8], at: usize, routing: u8, mode: u8) -> usize
     requires { at ≤ length out.old }
     ensures prefix_len { IsPrefixLen result out.new }
@@ -60,6 +61,7 @@ fn push_pair_line(out: &mut [u8], at: usize, routing: u8, mode: u8) -> usize
 }
 
 // The text with the line of the totals after it.
+#[tactic(auto, using(text::proofs::Laws::end_then, text::proofs::Laws::put_then), unfolding(crate::specs::Sheet::total_line_of))]
 fn push_total_line(
     out: &mut [u8],
     at: usize,
@@ -82,6 +84,7 @@ fn push_total_line(
 }
 
 // The text with a number and a space after it.
+#[tactic(auto, using(text::proofs::Laws::end_then, text::proofs::Laws::put_then), unfolding(crate::specs::Sheet::spaced_of))]
 fn push_spaced(out: &mut [u8], at: usize, number: u64) -> usize
     requires { at ≤ length out.old }
     ensures prefix_len { IsPrefixLen result out.new }

@@ -9,6 +9,7 @@ use lib.Dec.{lit<}
 use lib.ListN.{length, take, drop, length-append, length-drop, drop_of_length-le}
 use lib.Seq.{length-take-le, take_all, take-length, take-append_seam, take-append-le, take-append-add, drop-append-add, drop-drop, paste}
 use borrow.Author.Tests.{lt-ltb, le-ltb}
+use borrow.Rule.Slice.PartMut.{put_mid}
 use Rattle.io.specs.Digits.{last_digits, IsDigitCount}
 use Rattle.wire.proofs.Laws.{le_or_lt}
 use Rattle.text.specs.Text.{decimal_in, decimal_of, grown, grown_end}
@@ -37,20 +38,26 @@ module _ (d s : List ℕ) (at : ℕ) where
   unfolding grown grown_end
   grown_past h = (omega arith, sym (rw (take_all at d (omega arith), append_assoc d s (drop (at + length s) d)) (take-append_seam d (s ++ drop (at + length s) d))))
 
-  -- i bytes of s, pasted at a place of d: all that there is room for, or all that there are
-  module _ (i : ℕ) (h : i ≤ length s) (g : at + i ≤ length d) where
-    pub pasted_full : at + i ≡ length d → Grew d at s (paste d at s i) (at + i)
-    unfolding grown_end
-    pasted_full e =
-        let k : length (take at d) + i ≡ length d = omega (arith, length-take-le at d (omega arith)) in (
-          omega arith,
-          rw (drop_of_length-le d {i = at + i} (omega arith), append-nil)
-              (sym (grown_cut (omega arith) (omega arith) ∙ rw k at (take-append-add (take at d) s i))),
-        )
+  -- the first bytes of s, pasted at a place of d: all that there are, or all that there is room for
+  pub pasted : at ≤ length d → Grew d at s (paste d at s (min (length s) (length d - at))) (at + min (length s) (length d - at))
+  unfolding grown_end
+  pasted h =
+      ⊎_elim
+      (λ (f : at + length s ≤ length d).
+      let e : min (length s) (length d - at) ≡ length s = omega arith in
+      rw (e, take_all (length s) s (omega arith)) (omega arith, sym (grown_fits f)))
+      (λ (g : length d < at + length s).
+      let e : min (length s) (length d - at) ≡ length d - at = omega arith in
+      let end : at + (length d - at) ≡ length d = omega arith in
+      let k : length (take at d) + (length d - at) ≡ length d = omega (arith, length-take-le at d h) in
+      rw (e, end) (omega arith, rw (drop_of_length-le d {i = length d} (omega arith), append-nil) (sym (grown_cut h (omega arith) ∙ rw k at (take-append-add (take at d) s (length d - at))))))
+      (le_or_lt (at + length s) (length d))
 
-    pub pasted_whole : i ≡ length s → Grew d at s (paste d at s i) (at + i)
-    unfolding grown_end
-    pasted_whole e = (omega arith, rw (take_all i s (omega arith), e) (sym (grown_fits (omega arith))))
+  -- the same of n bytes y, put in the place of those of d
+  pub placed : (n : ℕ) (y : List ℕ) → at ≤ length d → n ≡ min (length s) (length d - at) → y ≡ take n s → Grew d at s (put_mid at (at + n - at) d y) (at + n)
+  placed n y h e f =
+      let k : at + n - at ≡ n = omega arith in
+      rw (k, f, drop-drop n at d, ← append_assoc (take at d) (take n s) (drop (at + n) d), e) (pasted h)
 
 grown_is : (d s : List ℕ) (at : ℕ) → grown d at s ≡ take (length d) (take at d ++ s ++ drop (at + length s) d)
 unfolding grown
@@ -79,7 +86,7 @@ module _ (d a b : List ℕ) (at : ℕ) (h : at ≤ length d) where
   unfolding grown
   length_grown = length-take-le _ _ (simp (length-append, length-drop, length-take-le at d h) (omega arith))
 
-  end_then : grown_end (grown d at a) (grown_end d at a) b ≡ grown_end d at (a ++ b)
+  pub end_then : grown_end (grown d at a) (grown_end d at a) b ≡ grown_end d at (a ++ b)
   unfolding grown_end
   end_then = rw (length_grown, length-append a b) (omega arith)
 
@@ -104,7 +111,7 @@ module _ (d a b : List ℕ) (at : ℕ) (h : at ≤ length d) where
       (grown_cut d (a ++ b) at h (omega (arith, length-append a b))
       ∙ rw (← append_assoc (take at d) a b) (take-append-le (length d) (take at d ++ a) b (omega (arith, length-append (take at d) a, length-take-le at d h))))
 
-  put_then : grown (grown d at a) (grown_end d at a) b ≡ grown d at (a ++ b)
+  pub put_then : grown (grown d at a) (grown_end d at a) b ≡ grown d at (a ++ b)
   unfolding grown_end
   put_then =
       ⊎_elim

@@ -14,19 +14,13 @@ pub fn push(out: &mut [u8], at: usize, text: &[u8]) -> usize
     if at > out.len() {
         return out.len();
     }
-    let mut i = 0;
-    while i < text.len() {
-        let place = at + i;
-        if place >= out.len() {
-            return place;
-        }
-        out[place] = text[i];
-        i += 1;
-    }
-    at + i
+    let count = text.len().min(out.len() - at);
+    out[at..at + count].copy_from_slice(&text[..count]);
+    at + count
 }
 
 // The text with a number's digits after it.
+#[tactic(auto, using(crate::proofs::Laws::decimal_is))]
 pub fn push_number(out: &mut [u8], at: usize, number: u64) -> usize
     ensures prefix_len { IsPrefixLen result out.new }
     ensures value { result ≡ grown_end out.old at (decimal_of number) }

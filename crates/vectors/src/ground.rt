@@ -1,6 +1,6 @@
 // Records of the crates that stand on no other: constants, answers, floats and wire.
 use answers::{Answer, Buffer};
-use replay::{f64_at, has, has_f64, has_flag, i32_at, size_at, u64_at};
+use replay::{f64_at, has, has_f64, has_flag, i32_at, part, size_at, u64_at};
 
 // ---- constants
 
@@ -27,87 +27,66 @@ pub(crate) fn constant(r: &[u8]) -> bool {
 }
 
 fn has_entry(r: &[u8], i: usize, row: &[f32]) -> bool {
-    if i < row.len() {
-        has(r, 12, row[i])
-    } else {
-        false
-    }
+    row.get(i).is_some_and(|&entry| has(r, 12, entry))
 }
 
 fn has_frozen(r: &[u8], row: usize, column: usize) -> bool {
     let table = constants::frozen_dac_polynomial();
-    if row < 11 {
-        if column < 3 {
-            return has(r, 12, table[row][column]);
-        }
-    }
-    false
+    table
+        .get(row)
+        .is_some_and(|entries| has_entry(r, column, entries))
 }
 
 fn has_double(r: &[u8], i: usize) -> bool {
     let doubles = constants::doubles();
-    if i < 2 {
-        has_f64(r, 12, doubles[i])
-    } else {
-        false
-    }
+    doubles.get(i).is_some_and(|&double| has_f64(r, 12, double))
 }
 
 fn has_size(r: &[u8], i: usize) -> bool {
     let sizes = constants::sizes();
-    if i < 3 {
-        size_at(r, 12) == sizes[i]
-    } else {
-        false
-    }
+    sizes
+        .get(i)
+        .is_some_and(|&size| replay::has_size(r, 12, size))
 }
 
 // ---- answers
 
 // The first refusal of two answers, with its number, buffer and place.
 pub(crate) fn answer(r: &[u8]) -> bool {
-    let a = answer_of(wire::u32_at(r, 0), wire::u32_at(r, 4), wire::u32_at(r, 8));
-    let b = answer_of(
-        wire::u32_at(r, 12),
-        wire::u32_at(r, 16),
-        wire::u32_at(r, 20),
-    );
-    let reported = answers::report(answers::first(a, b));
-    (wire::u32_at(r, 24) == reported.number)
-        & (wire::u32_at(r, 28) == reported.buffer)
-        & (wire::u32_at(r, 32) == reported.place)
+    let first = answers::first(answer_of(part(r, 0, 12)), answer_of(part(r, 12, 12)));
+    let reported = answers::report(first);
+    wire::u32_at(r, 24) == reported.number
+        && wire::u32_at(r, 28) == reported.buffer
+        && wire::u32_at(r, 32) == reported.place
 }
 
-// The refusal of a number (docs/FORMATS.md).
-fn answer_of(number: u32, buffer: u32, place: u32) -> Answer {
-    match number {
-        0 => Ok(()),
-        1 => Err(Refusal::BundleLength),
-        2 => Err(Refusal::Header) { place },
+// The refusal of a number (docs/FORMATS.md), with the buffer and the place that stand behind it.
+fn answer_of(words: &[u8]) -> Answer {
+    let buffer = wire::u32_at(words, 4);
+    let place = wire::u32_at(words, 8);
+    match wire::u32_at(words, 0) {
+        0 => Answer::Done,
+        1 => Answer::BundleLength,
+        2 => Answer::Header { place },
         3 => entry_of(buffer, place),
-        4 => Err(Refusal::CurvesLength),
-        5 => Err(Refusal::InputNotFinite),
-        6 => Err(Refusal::Domain),
-        7 => Err(Refusal::Script),
-        8 => Err(Refusal::OutputLength),
-        10 => Err(Refusal::Argument),
-        11 => Err(Refusal::Sources),
-        _ => Err(Refusal::Decays),
+        4 => Answer::CurvesLength,
+        5 => Answer::InputNotFinite,
+        6 => Answer::Domain,
+        7 => Answer::Script,
+        8 => Answer::OutputLength,
+        10 => Answer::Argument,
+        11 => Answer::Sources,
+        _ => Answer::Decays,
     }
 }
 
 fn entry_of(buffer: u32, place: u32) -> Answer {
-    if buffer == 0 {
-        Err(Refusal::Entry) {
-            buffer: Buffer::Bundle,
-            place,
-        }
+    let buffer = if buffer == 0 {
+        Buffer::Bundle
     } else {
-        Err(Refusal::Entry) {
-            buffer: Buffer::Curves,
-            place,
-        }
-    }
+        Buffer::Curves
+    };
+    Answer::Entry { buffer, place }
 }
 
 // ---- floats
@@ -119,7 +98,7 @@ pub(crate) fn rounding(r: &[u8]) -> bool {
     );
     let limit = floats::of_i16(constants::FILTER_CUTOFF_STEP_CHARGE_LIMIT_CODES);
     let displacement = floats::as_i16(floats::clamp(rounded, -limit, limit));
-    has(r, 4, rounded) & (wire::i16_at(r, 8) == displacement)
+    has(r, 4, rounded) && wire::i16_at(r, 8) == displacement
 }
 
 pub(crate) fn round(r: &[u8]) -> bool {
@@ -128,7 +107,7 @@ pub(crate) fn round(r: &[u8]) -> bool {
 
 pub(crate) fn truncate(r: &[u8]) -> bool {
     let x = wire::f32_at(r, 0);
-    (u64_at(r, 4) == floats::as_usize(x) as u64) & (wire::i16_at(r, 12) == floats::as_i16(x))
+    u64_at(r, 4) == floats::as_usize(x) as u64 && wire::i16_at(r, 12) == floats::as_i16(x)
 }
 
 pub(crate) fn clamp(r: &[u8]) -> bool {
@@ -149,8 +128,7 @@ pub(crate) fn finite(r: &[u8]) -> bool {
 }
 
 pub(crate) fn to_f32(r: &[u8]) -> bool {
-    let kind = wire::u32_at(r, 0);
-    match kind {
+    match wire::u32_at(r, 0) {
         0 => has(r, 8, floats::of_u16(wire::u16_at(r, 4))),
         1 => has(r, 8, floats::of_i16(wire::i16_at(r, 4))),
         2 => has(r, 8, floats::of_i32(i32_at(r, 4))),
@@ -160,7 +138,7 @@ pub(crate) fn to_f32(r: &[u8]) -> bool {
 
 pub(crate) fn narrow(r: &[u8]) -> bool {
     let x = f64_at(r, 0);
-    has(r, 8, floats::narrow(x)) & has_flag(r, 12, floats::is_finite_f64(x))
+    has(r, 8, floats::narrow(x)) && has_flag(r, 12, floats::is_finite_f64(x))
 }
 
 // ---- wire
@@ -168,19 +146,12 @@ pub(crate) fn narrow(r: &[u8]) -> bool {
 // A read in the first bytes of twelve, where what is not there is 0.
 pub(crate) fn read(r: &[u8]) -> bool {
     let length = size_at(r, 4);
-    if length <= 12 {
-        if 36 <= r.len() {
-            let end = 20 + length;
-            return has_read(r, &r[20..end]);
-        }
-    }
-    false
+    length <= 12 && has_read(r, part(r, 20, length))
 }
 
 fn has_read(r: &[u8], lent: &[u8]) -> bool {
-    let call = wire::u32_at(r, 0);
     let place = u64_at(r, 8) as usize;
-    match call {
+    match wire::u32_at(r, 0) {
         0 => wire::u32_at(r, 32) == wire::byte_at(lent, place) as u32,
         1 => wire::u32_at(r, 32) == wire::u16_at(lent, place) as u32,
         2 => wire::i16_at(r, 32) == wire::i16_at(lent, place),
@@ -194,26 +165,9 @@ fn has_read(r: &[u8], lent: &[u8]) -> bool {
 // A word put into the first bytes of twelve, where one that does not fit is not written.
 pub(crate) fn put(r: &[u8]) -> bool {
     let mut bytes = [0u8; 12];
-    put_within(&mut bytes, 12, 0, wire::u32_at(r, 16));
-    put_within(&mut bytes, 12, 4, wire::u32_at(r, 20));
-    put_within(&mut bytes, 12, 8, wire::u32_at(r, 24));
-    put_within(
-        &mut bytes,
-        size_at(r, 0),
-        u64_at(r, 4) as usize,
-        wire::u32_at(r, 12),
-    );
-    has_twelve(r, &bytes)
-}
-
-fn put_within(bytes: &mut [u8], length: usize, place: usize, value: u32) {
-    if length <= bytes.len() {
-        wire::put_u32(&mut bytes[0..length], place, value);
+    wire::put(&mut bytes, 0, part(r, 16, 12));
+    if let Some(lent) = bytes.get_mut(..size_at(r, 0)) {
+        wire::put_u32(lent, u64_at(r, 4) as usize, wire::u32_at(r, 12));
     }
-}
-
-fn has_twelve(r: &[u8], bytes: &[u8; 12]) -> bool {
-    (wire::u32_at(r, 28) == wire::u32_at(bytes, 0))
-        & (wire::u32_at(r, 32) == wire::u32_at(bytes, 4))
-        & (wire::u32_at(r, 36) == wire::u32_at(bytes, 8))
+    bytes.as_slice() == part(r, 28, 12)
 }

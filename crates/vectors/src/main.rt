@@ -4,73 +4,20 @@
 
 mod ground;
 
-use std::fs::Files;
-use std::io::Print;
+use replay::replay_file;
 
-// What a record asks for. Each kind has a file, and a function that says whether one of its records agrees.
-#[derive(Clone, Copy)]
-enum Kind {
-    Constants,
-    Answers,
-    Rounding,
-    Round,
-    Truncate,
-    Clamp,
-    Abs,
-    Finite,
-    ToF32,
-    Narrow,
-    Reads,
-    Puts,
-}
-
-fn agrees(kind: Kind, r: &[u8]) -> bool {
-    match kind {
-        Kind::Constants => ground::constant(r),
-        Kind::Answers => ground::answer(r),
-        Kind::Rounding => ground::rounding(r),
-        Kind::Round => ground::round(r),
-        Kind::Truncate => ground::truncate(r),
-        Kind::Clamp => ground::clamp(r),
-        Kind::Abs => ground::abs(r),
-        Kind::Finite => ground::finite(r),
-        Kind::ToF32 => ground::to_f32(r),
-        Kind::Narrow => ground::narrow(r),
-        Kind::Reads => ground::read(r),
-        Kind::Puts => ground::put(r),
-    }
-}
-
-// Each kind with its file and the number of words in its records.
+// Each file with the number of words in its records, and the function that says whether a record agrees.
 fn main(rt: HostRuntime) {
-    replay_file(&rt, Kind::Constants, b"constants.bin", 5);
-    replay_file(&rt, Kind::Answers, b"answers.bin", 9);
-    replay_file(&rt, Kind::Rounding, b"rounding.bin", 3);
-    replay_file(&rt, Kind::Round, b"round.bin", 2);
-    replay_file(&rt, Kind::Truncate, b"truncate.bin", 4);
-    replay_file(&rt, Kind::Clamp, b"clamp.bin", 4);
-    replay_file(&rt, Kind::Abs, b"abs.bin", 2);
-    replay_file(&rt, Kind::Finite, b"finite.bin", 2);
-    replay_file(&rt, Kind::ToF32, b"to_f32.bin", 3);
-    replay_file(&rt, Kind::Narrow, b"narrow.bin", 4);
-    replay_file(&rt, Kind::Reads, b"reads.bin", 9);
-    replay_file(&rt, Kind::Puts, b"puts.bin", 10);
-}
-
-// Prints the line of one file, whose records have a number of words.
-fn replay_file(rt: &(impl Files + Print), kind: Kind, file: &[u8], words: usize) {
-    let mut room = replay::room();
-    let n = replay::load(rt, file, &mut room);
-    let agreed = count_agreeing(kind, &room[..n], words);
-    replay::print_line(rt, file, &room[..n], words, agreed);
-}
-
-// How many of the records agree.
-fn count_agreeing(kind: Kind, records: &[u8], words: usize) -> usize {
-    let mut agreed = 0;
-    for i in 0..replay::count(records, words) {
-        let agree = agrees(kind, replay::record(records, words, i));
-        agreed = std::num::wrapping_add_usize(agreed, agree as usize);
-    }
-    agreed
+    replay_file(&rt, "constants.bin", 5, ground::constant);
+    replay_file(&rt, "answers.bin", 9, ground::answer);
+    replay_file(&rt, "rounding.bin", 3, ground::rounding);
+    replay_file(&rt, "round.bin", 2, ground::round);
+    replay_file(&rt, "truncate.bin", 4, ground::truncate);
+    replay_file(&rt, "clamp.bin", 4, ground::clamp);
+    replay_file(&rt, "abs.bin", 2, ground::abs);
+    replay_file(&rt, "finite.bin", 2, ground::finite);
+    replay_file(&rt, "to_f32.bin", 3, ground::to_f32);
+    replay_file(&rt, "narrow.bin", 4, ground::narrow);
+    replay_file(&rt, "reads.bin", 9, ground::read);
+    replay_file(&rt, "puts.bin", 10, ground::put);
 }

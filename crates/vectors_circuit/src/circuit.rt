@@ -1,8 +1,6 @@
 // Records of the integrator.
-ghost use Rattle.std.specs.Prelude.{◌<◌};
-
-use integrator::{Advanced, Coefficients, IntegratorState, Option<Advanced>};
-use replay::{has, has_floats};
+use integrator::{Advanced, Coefficients, IntegratorState, Substeps};
+use replay::{has, has_floats, part};
 
 pub(crate) fn saturate(r: &[u8]) -> bool {
     has(
@@ -22,11 +20,13 @@ pub(crate) fn advance(r: &[u8]) -> bool {
 
 // The last of four substeps, or that one of them left the finite domain.
 pub(crate) fn substeps(r: &[u8]) -> bool {
-    let settled = settled_at(r, 32) & settled_at(r, 52) & settled_at(r, 72) & settled_at(r, 92);
+    let settled = [32, 52, 72, 92]
+        .iter()
+        .all(|&place| is_settled(part(r, place, 20)));
     let four = state_at(r).four_substeps(wire::f32_at(r, 8), coefficients_at(r));
     match four {
-        Some(last) => settled & has_advanced(r, 92, last),
-        None => !settled,
+        Substeps::Settled(last) => settled && has_advanced(r, 92, last),
+        Substeps::NotFinite => !settled,
     }
 }
 
@@ -60,16 +60,6 @@ fn has_advanced(r: &[u8], place: usize, a: Advanced) -> bool {
 }
 
 // Whether the five numbers after a substep are finite.
-fn settled_at(r: &[u8], place: usize) -> bool
-    requires { place < 256 }
-{
-    finite_at(r, place)
-        & finite_at(r, place + 4)
-        & finite_at(r, place + 8)
-        & finite_at(r, place + 12)
-        & finite_at(r, place + 16)
-}
-
-fn finite_at(r: &[u8], place: usize) -> bool {
-    wire::finite_bits(wire::u32_at(r, place))
+fn is_settled(five: &[u8]) -> bool {
+    (0..5).all(|i| wire::finite_at(five, 4 * i))
 }

@@ -1,12 +1,7 @@
 // Records of response and mixing.
-ghost use Rattle.std.specs.Prelude.{◌<◌};
-
 use mixing::MixingTopology;
-use replay::{has, has_flag, has_size};
-
-fn byte_at(r: &[u8], place: usize) -> u8 {
-    wire::byte_at(r, place)
-}
+use replay::{has, has_flag, has_size, part};
+use wire::byte_at;
 
 pub(crate) fn operating_position(r: &[u8]) -> bool {
     let at = response::operating_position(
@@ -14,7 +9,7 @@ pub(crate) fn operating_position(r: &[u8]) -> bool {
         wire::f32_at(r, 4),
         wire::f32_at(r, 8),
     );
-    has_size(r, 12, at.lower) & has_size(r, 16, at.upper) & has(r, 20, at.fraction)
+    has_size(r, 12, at.lower) && has_size(r, 16, at.upper) && has(r, 20, at.fraction)
 }
 
 pub(crate) fn conductance(r: &[u8]) -> bool {
@@ -42,30 +37,25 @@ pub(crate) fn mode_gain(r: &[u8]) -> bool {
     )
 }
 
-fn has_flags(r: &[u8], place: usize, flags: [bool; 4]) -> bool
-    requires { place < 256 }
-{
-    has_flag(r, place, flags[0])
-        & has_flag(r, place + 4, flags[1])
-        & has_flag(r, place + 8, flags[2])
-        & has_flag(r, place + 12, flags[3])
+fn has_flags(words: &[u8], flags: [bool; 4]) -> bool {
+    (0..4).all(|i| has_flag(words, 4 * i, flags[i]))
 }
 
 pub(crate) fn topology(r: &[u8]) -> bool {
     let t = MixingTopology::update(byte_at(r, 0), byte_at(r, 4));
-    let filter = t.filter_membership;
-    let bypass = t.bypass_membership;
-    has_flags(r, 8, filter) & has_flags(r, 24, bypass) & has_rest(r, t)
+    has_flags(part(r, 8, 16), t.filter_membership)
+        && has_flags(part(r, 24, 16), t.bypass_membership)
+        && has_rest(r, t)
 }
 
 fn has_rest(r: &[u8], t: MixingTopology) -> bool {
     has_size(r, 40, t.filter_input_count)
-        & has_size(r, 44, t.bypass_input_count)
-        & has_size(r, 48, t.filter_output_count)
-        & has_size(r, 52, t.mixer_input_count)
-        & has(r, 56, t.filter_input_reciprocal)
-        & has(r, 60, t.summer_input_reciprocal)
-        & has(r, 64, t.mixer_input_reciprocal)
-        & has_size(r, 68, t.filter_internal_mask as usize)
-        & has_size(r, 72, t.bypass_internal_mask as usize)
+        && has_size(r, 44, t.bypass_input_count)
+        && has_size(r, 48, t.filter_output_count)
+        && has_size(r, 52, t.mixer_input_count)
+        && has(r, 56, t.filter_input_reciprocal)
+        && has(r, 60, t.summer_input_reciprocal)
+        && has(r, 64, t.mixer_input_reciprocal)
+        && has_size(r, 68, t.filter_internal_mask as usize)
+        && has_size(r, 72, t.bypass_internal_mask as usize)
 }

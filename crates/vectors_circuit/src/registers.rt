@@ -5,10 +5,12 @@ use control::{FilterRegisters, State};
 pub(crate) fn write(r: &[u8]) -> bool {
     let before = state_at(r);
     let value = wire::byte_at(r, 20);
-    if wire::u32_at(r, 16) == 0 {
-        return has_state(r, before.write_cutoff_low(value));
-    }
-    has_state(r, before.write_cutoff_high(value))
+    let after = if wire::u32_at(r, 16) == 0 {
+        before.write_cutoff_low(value)
+    } else {
+        before.write_cutoff_high(value)
+    };
+    has_state(r, after)
 }
 
 fn state_at(r: &[u8]) -> State {
@@ -33,9 +35,9 @@ fn state_at(r: &[u8]) -> State {
 
 fn has_state(r: &[u8], s: State) -> bool {
     let registers = s.registers;
-    (wire::u16_at(r, 24) == registers.cutoff)
-        & (wire::i16_at(r, 28) == registers.cutoff_dac_displacement_codes)
-        & (wire::u16_at(r, 32) == registers.cutoff_write_base)
-        & ((wire::u32_at(r, 36) == 1) == registers.cutoff_low_pending)
-        & (wire::u16_at(r, 40) == s.effective_cutoff())
+    wire::u16_at(r, 24) == registers.cutoff
+        && wire::i16_at(r, 28) == registers.cutoff_dac_displacement_codes
+        && wire::u16_at(r, 32) == registers.cutoff_write_base
+        && (wire::u32_at(r, 36) == 1) == registers.cutoff_low_pending
+        && wire::u16_at(r, 40) == s.effective_cutoff()
 }

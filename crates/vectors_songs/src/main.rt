@@ -4,56 +4,38 @@
 
 mod song;
 
+use song::Lent;
 use std::fs::Files;
 use std::io::Print;
 
+// The number that building answers, then the song whole, cut, event by event, and a script of no events.
 fn main(rt: HostRuntime) {
-    let mut bundle = bundle_room();
-    let mut decays = [0; 24];
-    let n = replay::load(&rt, b"bundle.bin", &mut bundle);
-    let m = replay::load(&rt, b"decays.bin", &mut decays);
-    replay_all(&rt, &bundle[..n], &decays[..m]);
-}
-
-// The number that building answers, then the files.
-fn replay_all(rt: &(impl Files + Print), bundle: &[u8], decays: &[u8]) {
+    let bundle = replay::load(&rt, "bundle.bin", 6127736);
+    let decays = replay::load(&rt, "decays.bin", 24);
     let mut curves = curves_room();
-    let built = curves::build(bundle, &mut curves);
-    replay::print(rt, b"bundle ");
-    replay::print_number(rt, bundle.len());
-    replay::print(rt, b" bytes, decays ");
-    replay::print_number(rt, decays.len());
-    replay::print(rt, b" bytes, build ");
-    replay::print_number(rt, answers::report(built).number as usize);
-    replay::print(rt, b"\n");
-    replay_songs(rt, bundle, &curves, decays);
-}
-
-// The song whole, cut, event by event, and a script of no events.
-fn replay_songs(rt: &(impl Files + Print), bundle: &[u8], curves: &[u8], decays: &[u8]) {
-    replay_song(rt, b"song.bin", bundle, curves, decays);
-    replay_song(rt, b"song_cut.bin", bundle, curves, decays);
-    replay_song(rt, b"song_events.bin", bundle, curves, decays);
-    replay_song(rt, b"song_empty.bin", bundle, curves, decays);
+    let built = curves::build(&bundle, &mut curves);
+    let number = answers::report(built).number;
+    let bytes = bundle.len();
+    let _ = println!(rt;
+        "bundle {bytes} bytes, decays {} bytes, build {number}",
+        decays.len()
+    );
+    let lent = Lent {
+        bundle: &bundle,
+        curves: &curves,
+        decays: &decays,
+    };
+    replay_song(&rt, "song.bin", lent);
+    replay_song(&rt, "song_cut.bin", lent);
+    replay_song(&rt, "song_events.bin", lent);
+    replay_song(&rt, "song_empty.bin", lent);
 }
 
 // Prints the line of one file of pieces.
-fn replay_song(
-    rt: &(impl Files + Print),
-    file: &[u8],
-    bundle: &[u8],
-    curves: &[u8],
-    decays: &[u8],
-) {
-    let mut room = replay::room();
-    let n = replay::load(rt, file, &mut room);
-    let agreed = song::count_agreeing(&room[..n], bundle, curves, decays);
-    replay::print_pieces(rt, file, song::count(&room[..n]), agreed);
-}
-
-// The bundle alone takes 6 of the 8 MiB of stack.
-fn bundle_room() -> [u8; 6127736] {
-    [0; 6127736]
+fn replay_song<R: Alloc + Files + Print>(rt: &R, file: &str, lent: Lent<'_>) {
+    let bytes = replay::load(rt, file, replay::MOST);
+    let agreed = song::count_agreeing(&bytes, lent);
+    replay::print_pieces(rt, file, song::count(&bytes), agreed);
 }
 
 fn curves_room() -> [u8; 254076] {

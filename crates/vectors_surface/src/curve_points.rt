@@ -1,12 +1,12 @@
 // Records of the calls that say where on a curve, as C has them.
+use replay::{has, part};
 use sid_filter::PointAnswer;
 
 pub(crate) fn sample_curve(r: &[u8], curves: &[u8]) -> bool {
     let curve = wire::u32_at(r, 0);
     let input = wire::f32_at(r, 4);
     has_point(
-        r,
-        8,
+        part(r, 8, 16),
         sid_filter::sid_filter_sample_curve(curves, curve, input),
     )
 }
@@ -20,33 +20,29 @@ pub(crate) fn transfer(r: &[u8], bundle: &[u8], curves: &[u8]) -> bool {
         1 => sid_filter::sid_filter_mixer(curves, first, second, input),
         _ => sid_filter::sid_filter_volume(curves, first, input),
     };
-    has_point(r, 16, answered)
+    has_point(part(r, 16, 16), answered)
 }
 
 pub(crate) fn sample_point(r: &[u8], bundle: &[u8], curves: &[u8]) -> bool {
-    if r.len() < 68 {
-        return false;
-    }
+    let block = part(r, 0, 68);
     let sum = wire::f32_at(r, 68);
     let energy = wire::f32_at(r, 72);
     has_point(
-        r,
-        76,
-        sid_filter::sid_filter_sample_point(bundle, curves, &r[0..68], sum, energy),
+        part(r, 76, 16),
+        sid_filter::sid_filter_sample_point(bundle, curves, block, sum, energy),
     )
 }
 
 // The number of the answer and nothing else of it, then value, index and fraction.
-fn has_point(r: &[u8], place: usize, answered: PointAnswer) -> bool {
+fn has_point(words: &[u8], answered: PointAnswer) -> bool {
     let answer = answered.answer;
     let point = answered.point;
-    (answer.number == wire::u32_at(r, place))
-        & (answer.events == 0)
-        & (answer.samples == 0)
-        & (answer.buffer == 0)
-        & (answer.place == 0)
-        & (wire::float_bits(point.value) == wire::u32_at(r, std::num::wrapping_add_usize(place, 4)))
-        & (point.index == wire::u32_at(r, std::num::wrapping_add_usize(place, 8)))
-        & (wire::float_bits(point.fraction)
-            == wire::u32_at(r, std::num::wrapping_add_usize(place, 12)))
+    answer.number == wire::u32_at(words, 0)
+        && answer.events == 0
+        && answer.samples == 0
+        && answer.buffer == 0
+        && answer.place == 0
+        && has(words, 4, point.value)
+        && point.index == wire::u32_at(words, 8)
+        && has(words, 12, point.fraction)
 }

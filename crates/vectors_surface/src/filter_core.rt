@@ -1,22 +1,19 @@
 // Records of the filter's core: what is kept of a state, and a sample. Each starts with a state's block.
-use control::{Option<State>, State};
+use control::{DecodedState, State};
 use mixing::MixingTopology;
 use refresh::Refreshed;
-use replay::{has_flag, has_floats, has_size};
+use replay::{has_flag, has_floats, has_size, part};
 use sample::Sampled;
 
-fn state_at(r: &[u8]) -> Option<State> {
-    if 68 <= r.len() {
-        return State::decode(&r[0..68]);
-    }
-    None
+fn state_at(r: &[u8]) -> DecodedState {
+    State::decode(part(r, 0, 68))
 }
 
 pub(crate) fn controls(r: &[u8], bundle: &[u8]) -> bool {
     let decoded = state_at(r);
     match decoded {
-        Some(state) => has_controls(r, refresh::refresh(bundle, state)),
-        None => false,
+        DecodedState::Valid(state) => has_controls(r, refresh::refresh(bundle, state)),
+        DecodedState::Invalid => false,
     }
 }
 
@@ -47,23 +44,23 @@ fn has_controls(r: &[u8], refreshed: Refreshed) -> bool {
         o.pure_bypass_common_mode_gain,
         o.scaled_filter_common_mode,
     ];
-    answer.is_ok()
-        & has_size(r, 68, f.effective_cutoff_index)
-        & has_floats(r, 72, &integrator_gain)
-        & has_floats(r, 136, &input_drive)
-        & has_floats(r, 200, &feedback_drive)
-        & has_floats(r, 264, &at_the_cutoff)
-        & has_size(r, 284, f.resonance_index)
-        & has_floats(r, 288, &others)
-        & has_flag(r, 328, o.frozen_dac_bias_mode)
+    answers::is_done(answer)
+        && has_size(r, 68, f.effective_cutoff_index)
+        && has_floats(r, 72, &integrator_gain)
+        && has_floats(r, 136, &input_drive)
+        && has_floats(r, 200, &feedback_drive)
+        && has_floats(r, 264, &at_the_cutoff)
+        && has_size(r, 284, f.resonance_index)
+        && has_floats(r, 288, &others)
+        && has_flag(r, 328, o.frozen_dac_bias_mode)
 }
 
 pub(crate) fn sample(r: &[u8], bundle: &[u8], curves: &[u8]) -> bool {
     let decoded = state_at(r);
     match decoded {
-        Some(state) => keeps_rest(r)
-            & has_sampled(r, sampled(r, bundle, curves, state)),
-        None => false,
+        DecodedState::Valid(state) => keeps_rest(r)
+            && has_sampled(r, sampled(r, bundle, curves, state)),
+        DecodedState::Invalid => false,
     }
 }
 
@@ -97,7 +94,7 @@ fn has_sampled(r: &[u8], sampled: Sampled) -> bool {
                 state.low_state,
                 state.filter_source_energy,
             ];
-            has_floats(r, 76, &given) & has_floats(r, 104, &left)
+            has_floats(r, 76, &given) && has_floats(r, 104, &left)
         }
         Sampled::Refused { answer } => false,
     }
@@ -105,8 +102,5 @@ fn has_sampled(r: &[u8], sampled: Sampled) -> bool {
 
 // The block after the sample has the registers of the one before, and what it was charged with.
 fn keeps_rest(r: &[u8]) -> bool {
-    if r.len() < 160 {
-        return false;
-    }
-    check::same(&r[92..104], &r[0..12]) & check::same(&r[116..160], &r[24..68])
+    part(r, 92, 12) == part(r, 0, 12) && part(r, 116, 44) == part(r, 24, 44)
 }

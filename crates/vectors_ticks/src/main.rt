@@ -2,39 +2,14 @@
 // Prints a line for each file: its name, how many of its records agree, and how many it has.
 #![tactic(auto)]
 
-use std::fs::Files;
-use std::io::Print;
-
-// What a record has around a tick.
-#[derive(Clone, Copy)]
-enum Kind {
-    Ticks,
-    TicksDamaged,
-}
+use replay::{part, replay_file};
+use std::alloc::AllocError;
 
 // ---- a tick
 
-// So many bytes from a place on, and none where they are not there.
-fn part(bytes: &[u8], from: usize, count: usize) -> &[u8] {
-    if from <= bytes.len() {
-        if count <= bytes.len() - from {
-            let end = from + count;
-            return &bytes[from..end];
-        }
-    }
-    &bytes[0..0]
-}
-
 // What goes in is a state's block, decays, levels and voices; what it leaves are the four numbers, zeros where it is refused, and the block.
-fn has_tick(
-    inputs: &[u8],
-    number: u32,
-    buffer: u32,
-    place: u32,
-    left: &[u8],
-    bundle: &[u8],
-    curves: &[u8],
-) -> bool {
+// Told are the number, the buffer and the place of the answer.
+fn has_tick(inputs: &[u8], told: [u32; 3], left: &[u8], bundle: &[u8], curves: &[u8]) -> bool {
     let mut block = [0; 68];
     let mut output = [0; 16];
     wire::put(&mut block, 0, part(inputs, 0, 68));
@@ -47,139 +22,75 @@ fn has_tick(
         part(inputs, 104, 36),
         &mut output,
     );
-    (reply.number == number)
-        & (reply.buffer == buffer)
-        & (reply.place == place)
-        & check::same(&output, part(left, 0, 16))
-        & check::same(&block, part(left, 16, 68))
+    [reply.number, reply.buffer, reply.place] == told
+        && output.as_slice() == part(left, 0, 16)
+        && block.as_slice() == part(left, 16, 68)
 }
 
 // ---- the records
 
 // Inputs, number, what is left.
 fn sound(r: &[u8], bundle: &[u8], curves: &[u8]) -> bool {
-    has_tick(
-        part(r, 0, 140),
-        wire::u32_at(r, 140),
-        0,
-        0,
-        part(r, 144, 84),
-        bundle,
-        curves,
-    )
+    let told = [wire::u32_at(r, 140), 0, 0];
+    has_tick(part(r, 0, 140), told, part(r, 144, 84), bundle, curves)
 }
 
 // Three entries, inputs, number, buffer and place, what is left. The entries are put back, the last one first.
-fn damaged(r: &[u8], bundle: &mut [u8; 6127736], curves: &mut [u8; 254076]) -> bool {
-    let one = swap_entry(part(r, 0, 12), wire::u32_at(r, 8), bundle, curves);
-    let two = swap_entry(part(r, 12, 12), wire::u32_at(r, 20), bundle, curves);
-    let three = swap_entry(part(r, 24, 12), wire::u32_at(r, 32), bundle, curves);
-    let agree = has_tick(
-        part(r, 36, 140),
+fn damaged(r: &[u8], bundle: &mut [u8], curves: &mut [u8]) -> bool {
+    let mut had = [0; 3];
+    for i in 0..3 {
+        let entry = part(r, 12 * i, 12);
+        had[i] = swap_entry(entry, wire::u32_at(entry, 8), bundle, curves);
+    }
+    let told = [
         wire::u32_at(r, 176),
         wire::u32_at(r, 180),
         wire::u32_at(r, 184),
-        part(r, 188, 84),
-        bundle,
-        curves,
-    );
-    swap_entry(part(r, 24, 12), three, bundle, curves);
-    swap_entry(part(r, 12, 12), two, bundle, curves);
-    swap_entry(part(r, 0, 12), one, bundle, curves);
+    ];
+    let agree = has_tick(part(r, 36, 140), told, part(r, 188, 84), bundle, curves);
+    for i in (0..3).rev() {
+        swap_entry(part(r, 12 * i, 12), had[i], bundle, curves);
+    }
     agree
 }
 
 // Puts a word in the place of the one that was there, by buffer, 0 the bundle and 1 the curves, and byte. Zeros name no entry: the bundle starts with its header.
-fn swap_entry(
-    entry: &[u8],
-    word: u32,
-    bundle: &mut [u8; 6127736],
-    curves: &mut [u8; 254076],
-) -> u32 {
+fn swap_entry(entry: &[u8], word: u32, bundle: &mut [u8], curves: &mut [u8]) -> u32 {
     let place = wire::u32_at(entry, 4) as usize;
     if wire::u32_at(entry, 0) == 1 {
-        let had = wire::u32_at(curves, place);
-        wire::put_u32(curves, place, word);
-        return had;
+        swap_word(curves, place, word)
+    } else if place == 0 {
+        0
+    } else {
+        swap_word(bundle, place, word)
     }
-    if place == 0 {
-        return 0;
-    }
-    let had = wire::u32_at(bundle, place);
-    wire::put_u32(bundle, place, word);
+}
+
+fn swap_word(buffer: &mut [u8], place: usize, word: u32) -> u32 {
+    let had = wire::u32_at(buffer, place);
+    wire::put_u32(buffer, place, word);
     had
 }
 
-fn agrees(kind: Kind, r: &[u8], bundle: &mut [u8; 6127736], curves: &mut [u8; 254076]) -> bool {
-    match kind {
-        Kind::Ticks => sound(r, bundle, curves),
-        Kind::TicksDamaged => damaged(r, bundle, curves),
-    }
-}
+// ---- the files, each with the number of words in its records
 
-// ---- the files
-
-fn main(rt: HostRuntime) {
-    let mut bundle = bundle_room();
+fn main(rt: HostRuntime) -> Result<(), AllocError> {
+    let mut bundle = replay::load(&rt, "bundle.bin", BUNDLE_LENGTH);
+    let bytes = bundle.len();
+    bundle.resize(BUNDLE_LENGTH, 0)?;
     let mut curves = curves_room();
-    let n = replay::load(&rt, b"bundle.bin", &mut bundle);
     let answer = curves::build(&bundle, &mut curves);
-    print_built(&rt, n, answers::report(answer).number);
-    replay_file(&rt, Kind::Ticks, b"ticks.bin", 57, &mut bundle, &mut curves);
-    replay_file(
-        &rt,
-        Kind::TicksDamaged,
-        b"ticks_damaged.bin",
-        68,
-        &mut bundle,
-        &mut curves,
-    );
+    let built = answers::report(answer).number;
+    let _ = println!(rt; "bundle {bytes} bytes, build {built}");
+    replay_file(&rt, "ticks.bin", 57, |r| sound(r, &bundle, &curves));
+    replay_file(&rt, "ticks_damaged.bin", 68, |r| {
+        damaged(r, &mut bundle, &mut curves)
+    });
+    Ok(())
 }
 
-fn print_built(rt: &impl Print, bytes: usize, built: u32) {
-    replay::print(rt, b"bundle ");
-    replay::print_number(rt, bytes);
-    replay::print(rt, b" bytes, build ");
-    replay::print_number(rt, built as usize);
-    replay::print(rt, b"\n");
-}
-
-// The bundle alone takes 6 of the 8 MiB of stack.
-fn bundle_room() -> [u8; 6127736] {
-    [0; 6127736]
-}
+const BUNDLE_LENGTH: usize = 6127736;
 
 fn curves_room() -> [u8; 254076] {
     [0; 254076]
-}
-
-// Prints the line of one file, whose records have a number of words.
-fn replay_file(
-    rt: &(impl Files + Print),
-    kind: Kind,
-    file: &[u8],
-    words: usize,
-    bundle: &mut [u8; 6127736],
-    curves: &mut [u8; 254076],
-) {
-    let mut room = replay::room();
-    let n = replay::load(rt, file, &mut room);
-    let agreed = count_agreeing(kind, &room[..n], words, bundle, curves);
-    replay::print_line(rt, file, &room[..n], words, agreed);
-}
-
-// How many of the records agree.
-fn count_agreeing(
-    kind: Kind,
-    records: &[u8],
-    words: usize,
-    bundle: &mut [u8; 6127736],
-    curves: &mut [u8; 254076],
-) -> usize {
-    let mut agreed = 0;
-    for i in 0..replay::count(records, words) {
-        let agree = agrees(kind, replay::record(records, words, i), bundle, curves);
-        agreed = std::num::wrapping_add_usize(agreed, agree as usize);
-    }
-    agreed
 }

@@ -3,28 +3,6 @@ use Rattle.bounce_lines.specs.Lines.{script_line_of}
 use Rattle.text.proofs.Laws.{grown_then}
 use Rattle.bounce_lines.proofs.lines.script_line.Goals as goal
 
-pub returns-then-is_done-clause-prefix_len : goal.returns-then-is_done-clause-prefix_len
-unfolding script_line_of
-returns-then-is_done-clause-prefix_len c = c.push.ensures.prefix_len
-
-pub returns-then-is_done-clause-value : goal.returns-then-is_done-clause-value
-unfolding script_line_of
-returns-then-is_done-clause-value c =
-    let two = grown_then _ _ _ _ _ _ _ _ (search rules) (c.push-n.ensures.value, c.push-n.ensures.out_after) (c.push-n-then-is_done.ensures.value, c.push-n-then-is_done.ensures.out_after) in
-    let three = grown_then _ _ _ _ _ _ _ _ (search rules) two (c.push_counts-n.ensures.value, c.push_counts-n.ensures.out_after) in
-    rw (← c.is_done.ensures, c.if-is_done.true) ((grown_then _ _ _ _ _ _ _ _ (search rules) three (c.push.ensures.value, c.push.ensures.out_after)).0)
-
-pub returns-then-is_done-clause-out_after : goal.returns-then-is_done-clause-out_after
-unfolding script_line_of
-returns-then-is_done-clause-out_after c =
-    let two = grown_then _ _ _ _ _ _ _ _ (search rules) (c.push-n.ensures.value, c.push-n.ensures.out_after) (c.push-n-then-is_done.ensures.value, c.push-n-then-is_done.ensures.out_after) in
-    let three = grown_then _ _ _ _ _ _ _ _ (search rules) two (c.push_counts-n.ensures.value, c.push_counts-n.ensures.out_after) in
-    rw (← c.is_done.ensures, c.if-is_done.true) ((grown_then _ _ _ _ _ _ _ _ (search rules) three (c.push.ensures.value, c.push.ensures.out_after)).1)
-
-pub returns-clause-prefix_len : goal.returns-clause-prefix_len
-unfolding script_line_of
-returns-clause-prefix_len c = c.push-2.ensures.prefix_len
-
 pub returns-clause-value : goal.returns-clause-value
 unfolding script_line_of
 returns-clause-value c =

@@ -1,6 +1,6 @@
 use native.Mathlib.Omega.{arith}
-use Rattle.replay.proofs.Laws.{inside, record_is, record_none}
-use Rattle.replay.proofs.record.Goals as goal
+use Rattle.replay.proofs.Laws.{inside}
+use Rattle.replay.proofs.Records.get.Goals as goal
 
 pub overflow_mul-start : goal.overflow_mul-start
 overflow_mul-start c = omega (arith, inside _ _ _ _ c.count.ensures c.if-i-count.true)
@@ -16,9 +16,3 @@ overflow_add-end c = omega (arith, inside _ _ _ _ c.count.ensures c.if-i-count.t
 
 pub slice_bounds-result-end : goal.slice_bounds-result-end
 slice_bounds-result-end c = omega (arith, inside _ _ _ _ c.count.ensures c.if-i-count.true)
-
-pub returns-then-i-count : goal.returns-then-i-count
-returns-then-i-count c = let a = c.args in record_is a.records.now a.words a.i _ c.count.ensures c.if-i-count.true
-
-pub returns : goal.returns
-returns c = let a = c.args in record_none a.records.now a.words a.i _ c.count.ensures c.if-i-count.false
