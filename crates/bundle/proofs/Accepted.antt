@@ -17,7 +17,6 @@ use Rattle.wire.specs.First.{first_unusable_of}
 use Rattle.wire.proofs.First.{first_before, first_is, none_unusable, all_usable_lem}
 use Rattle.bundle.specs.Layout.{Section, sections, every_entry, analogue_surface, bundle_length, header_length, words, header, entry_place}
 use Rattle.bundle.specs.Opening.{header_byte, first_difference, check_of, judge_section_of, open_of, Accepted}
-use Rattle.std.specs.Prelude.{Err}
 
 -- ---- the header
 

@@ -1,5 +1,5 @@
 -- Reading one thing and then another: both values, or the first refusal. Assumes nothing.
-use Rattle.std.specs.Prelude.{◌≡◌, refl, Bool, true, false, Float, Ok, Err, is_ok}
+use Rattle.std.specs.Prelude.{◌≡◌, refl, Bool, true, false, Float, Ok, Err}
 use Rattle.answers.specs.declared.Refusal.{Refusal}
 use Rattle.answers.specs.Answers.{Answer, first_of, unless_of, done}
 use Rattle.bundle.specs.Reading.{read_of}

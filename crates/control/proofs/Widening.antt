@@ -25,7 +25,7 @@ use Rattle.control.specs.Widening.{narrow_valid_of, wide_of, widens_of, widened_
 use Rattle.control.proofs.Block.{narrow_long}
 use Rattle.control.proofs.Valid.{four}
 use Rattle.control.proofs.RoundTrip.{decode_block, narrow_fields}
-use Rattle.std.specs.Prelude.{Some, None}
+use Rattle.std.specs.Prelude.{Some}
 
 -- ---- what is widened is valid where the block is
 

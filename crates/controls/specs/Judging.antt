@@ -1,5 +1,5 @@
 -- What the refresh calls read, in the Rust's order, and whether what they work out is finite: refusals 3 and 6 of the controls.
-use Rattle.std.specs.Prelude.{ℕ, ◌%◌, Bool, true, cond, ◌&&◌, List, [], ◌∷◌, eqb, Float, Err}
+use Rattle.std.specs.Prelude.{ℕ, ◌%◌, Bool, true, cond, ◌&&◌, List, [], ◌∷◌, eqb, Float}
 use Rattle.std.specs.Float.Ieee.Scale.{finite}
 use Rattle.answers.specs.declared.Refusal.TheVariants.{Domain}
 use Rattle.answers.specs.declared.Buffer.TheVariants.{Bundle}

@@ -22,7 +22,6 @@ use Rattle.curves.specs.Sampling.{last_base, load_position_of, table_place}
 use Rattle.curves.specs.Building.{load_curve_of, curve_load_of, curve_entry_of, curve_length, curves_length, build_curve_of, judge_length_of, judge_build_of}
 use Rattle.curves.specs.Inner.{row_length, table_row_of, UsableRow, blend_of, blend_rows_of, Buildable}
 use Rattle.curves.proofs.Laws.{load_lower, load_upper}
-use Rattle.std.specs.Prelude.{Err}
 
 -- ---- the row of a load
 

@@ -1,5 +1,5 @@
 -- The 31 curves of `Filter::new`, operation by operation, and what building them answers.
-use Rattle.std.specs.Prelude.{ℕ, ◌+◌, ◌-◌, min, cond, List, eqb, ltb, pos, length, Float, Err, is_ok}
+use Rattle.std.specs.Prelude.{ℕ, ◌+◌, ◌-◌, min, cond, List, eqb, ltb, pos, length, Float, is_ok}
 use Rattle.std.specs.Float.{binary32}
 use Rattle.std.specs.Float.Ieee.{of_int}
 use Rattle.answers.specs.declared.Refusal.TheVariants.{CurvesLength}

@@ -4,7 +4,6 @@ use mathlib.Core.Path.{◌≡◌, refl, ap, ◌∙◌}
 use mathlib.Core.List.{List}
 use lib.Ieee.{Float}
 use native.Mathlib.Omega.{arith}
-use borrow.Author.Rules.{rules}
 use Rattle.wire.specs.Wire.{float_bytes, put_at, rows}
 use Rattle.curves.specs.Inner.{row_length, blend_of, blend_rows_of}
 use Rattle.wire.proofs.Laws.{front_none, front_more, front_all}

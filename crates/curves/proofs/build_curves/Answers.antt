@@ -7,7 +7,6 @@ use mathlib.Core.Path.{◌≡◌, refl, ap, ◌∙◌}
 use mathlib.Core.List.{List}
 use native.Mathlib.Omega.{arith}
 use lib.ListN.{length}
-use borrow.Author.Rules.{rules}
 use Rattle.wire.specs.Wire.{put_at, rows}
 use Rattle.curves.specs.Building.{curve_length, build_curve_of, build_curves_of}
 use Rattle.curves.proofs.build_curves.Goals as goal

@@ -1,5 +1,4 @@
 -- The invariant: the curves so far stand at the front of the buffer.
-use Prim.Native.Nat.{◌-◌, ◌≤◌}
 use mathlib.Core.Path.{◌≡◌}
 use lib.ListN.{length}
 use Rattle.wire.specs.Wire.{put_at, rows}

@@ -1,4 +1,4 @@
-use mathlib.Core.Path.{refl, sym, ◌∙◌}
+use mathlib.Core.Path.{refl, ◌∙◌}
 use Rattle.integrator.proofs.Laws.{some_if}
 use Rattle.control.proofs.Block.{decode_told, decode_not}
 use Rattle.control.proofs.State.decode.Goals as goal
