@@ -1,5 +1,5 @@
 -- Ticks in a row, between which only integrator and transients move: each takes the next 36 bytes of a row of voices.
-use Rattle.std.specs.Prelude.{ℕ, zero, suc, ◌+◌, ◌/◌, cond, List, [], ◌∷◌, ◌++◌, ltb, length, take, drop, Err, Result, Float, Ok}
+use Rattle.std.specs.Prelude.{ℕ, zero, suc, ◌+◌, ◌/◌, min, cond, List, [], ◌∷◌, ◌++◌, length, take, drop, Err, Result, Float, Ok}
 use Rattle.std.specs.Float.{binary32}
 use Rattle.std.specs.Float.Ieee.{to_bits}
 use Rattle.answers.specs.declared.Refusal.TheVariants.{Sources}
@@ -25,7 +25,7 @@ voice_slices (suc n) b = take 36 b ∷ voice_slices n (drop 36 b)
 
 -- as many as so many bytes of voices have and so many of output hold
 abbrev pub tick_count_of : ℕ → ℕ → ℕ
-tick_count_of voices room = cond (ltb (voices / 36) (room / 16)) (voices / 36) (room / 16)
+tick_count_of voices room = min (voices / 36) (room / 16)
 
 -- ---- the ticks
 
@@ -44,8 +44,8 @@ one_tick o r = record { answer = r.answer; outputs = o ∷ r.outputs; integrator
 
 -- a tick, and what comes after it
 abbrev pub ticks_on : (IntegratorState → TransientState → Ticks) → IntegratorState → TransientState → Result Ticked Refusal → Ticks
-ticks_on later i t (Ok (record { outputs = o; integrator = j; transients = u })) = one_tick o (later j u)
-ticks_on later i t (Err answer) = no_ticks answer i t
+ticks_on later i t (Ok x) = one_tick x.outputs (later x.integrator x.transients)
+ticks_on later i t (Err refusal) = no_ticks (Err refusal) i t
 
 module _ (curves : List ℕ) (c : ControlCache) (rest : Result Float Refusal) (s : Settings) where
   -- 11 of its voices, then the tick
