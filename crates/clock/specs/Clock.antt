@@ -1,11 +1,13 @@
 -- `Filter::clock` of filter.rs up to the argument of `AudioOutStage::process`, operation by operation and stage by stage: collecting, the core with its selection, the rest.
 -- A stage's 3 comes before its 6, and its 6 before the next stage.
 use Rattle.std.specs.Prelude.{ℕ, Bool, ◌&&◌, cond, List, eqb, Float, Err, Result, Ok}
-use Rattle.std.specs.Float.Ieee.{eq}
+use Rattle.std.specs.Float.{binary32}
+use Rattle.std.specs.Float.Ieee.{eq, to_bits}
 use Rattle.std.specs.Float.Ieee.Scale.{finite}
 use Rattle.constants.specs.Values as K
 use Rattle.answers.specs.declared.Refusal.TheVariants.{Domain}
 use Rattle.floats.specs.Arithmetic.{◌⊕◌, ◌⊖◌, ◌⊗◌, f32}
+use Rattle.wire.specs.Wire.{row_bytes}
 use Rattle.integrator.specs.declared.IntegratorState.{IntegratorState}
 use Rattle.mixing.specs.declared.MixingTopology.{MixingTopology}
 use Rattle.transients.specs.declared.TransientState.{TransientState}
@@ -25,6 +27,7 @@ use Rattle.activity.specs.Activity.{mixer_output_of, bypass_output_gain_of}
 use Rattle.frozen.specs.Frozen.{configured_of, frozen_dac_operating_point_of}
 use Rattle.clock.specs.declared.Slots.{Slots}
 use Rattle.clock.specs.declared.Settings.{Settings}
+use Rattle.clock.specs.declared.TickOutputs.{TickOutputs}
 use Rattle.clock.specs.declared.Ticked.{Ticked}
 use Rattle.clock.specs.Transients.{tracked_blends_of, with_blends, combined_activity_of, attacked_of, pulsed_of, node_charge_of, decayed_of}
 use Rattle.answers.specs.declared.Refusal.{Refusal}
@@ -32,6 +35,12 @@ use Rattle.answers.specs.declared.Refusal.{Refusal}
 -- The slots of the three curves in a buffer of all 31.
 abbrev pub slots_of : MixingTopology → ℕ → Slots
 slots_of t volume = record { summer = summer_slot_of t; mixer = mixer_slot_of t.mixer_input_count; volume = volume_slot_of volume }
+
+-- ---- what a tick gives
+
+-- stage, charge, mixer and filter
+abbrev pub tick_bytes : TickOutputs → List ℕ
+tick_bytes o = row_bytes (to_bits binary32 o.stage) (to_bits binary32 o.charge) (to_bits binary32 o.mixer) (to_bits binary32 o.filter)
 
 -- ---- collecting, with the blends of this tick
 

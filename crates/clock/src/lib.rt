@@ -2,6 +2,7 @@
 #![tactic(auto)]
 
 ghost use Rattle.std.specs.Prelude.{◌≡◌, Ok};
+ghost use Rattle.wire.specs.Wire.{put_at};
 ghost use Rattle.sample.specs.Parts.{cache_of};
 ghost use Rattle.clock.specs.Transients as T;
 ghost use Rattle.clock.specs.Clock as C;
@@ -59,6 +60,22 @@ pub struct TickOutputs {
     pub charge: f32,
     pub mixer: f32,
     pub filter: f32,
+}
+
+impl TickOutputs {
+    // Writes the sixteen bytes.
+    pub fn put(self, output: &mut [u8], place: usize)
+        ensures { output.new ≡ put_at output.old place (C.tick_bytes self) }
+    {
+        wire::put_row(
+            output,
+            place,
+            wire::float_bits(self.stage),
+            wire::float_bits(self.charge),
+            wire::float_bits(self.mixer),
+            wire::float_bits(self.filter),
+        );
+    }
 }
 
 // A tick that went, with what it leaves. One that is refused leaves all as it was.

@@ -1,11 +1,9 @@
 -- A tick on a state's block: its core is worked out and ticked once.
 use Rattle.std.specs.Prelude.{ℕ, cond, List, eqb, Err, Option, Some, None, Result, Ok}
-use Rattle.std.specs.Float.{binary32}
-use Rattle.std.specs.Float.Ieee.{to_bits}
 use Rattle.answers.specs.declared.Refusal.TheVariants.{Argument}
 use Rattle.answers.specs.Answers.{reported_of, first_of, unless_of, Answer}
 use Rattle.std.specs.Result.{result_and}
-use Rattle.wire.specs.Wire.{row_bytes, put_at}
+use Rattle.wire.specs.Wire.{put_at}
 use Rattle.integrator.specs.declared.IntegratorState.{IntegratorState}
 use Rattle.transients.specs.declared.TransientState.{TransientState}
 use Rattle.control.specs.declared.State.{State}
@@ -13,6 +11,7 @@ use Rattle.control.specs.Block.{valid_of, fields_of, encode_of}
 use Rattle.transients.specs.Block.{judge_decays_of}
 use Rattle.clock.specs.declared.TickOutputs.{TickOutputs}
 use Rattle.clock.specs.declared.Ticked.{Ticked}
+use Rattle.clock.specs.Clock.{tick_bytes}
 use Rattle.filter.specs.Lent.{Lent, judge_lent_of}
 use Rattle.turns.specs.Turns.{TickFed, judge_levels_of, judge_voices_of, turn_start_of, core_tick_of}
 use Rattle.probe_ticks.specs.declared.TickReply.{TickReply}
@@ -53,7 +52,7 @@ block_after_of i t block = encode_of (record { registers = (fields_of block).reg
 
 -- stage, charge, mixer and filter
 abbrev pub output_after_of : TickOutputs → List ℕ → List ℕ
-output_after_of o output = put_at output 0 (row_bytes (to_bits binary32 o.stage) (to_bits binary32 o.charge) (to_bits binary32 o.mixer) (to_bits binary32 o.filter))
+output_after_of o output = put_at output 0 (tick_bytes o)
 
 -- an answer by its numbers
 abbrev pub tick_reply_of : Result Ticked Refusal → TickReply

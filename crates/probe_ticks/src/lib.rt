@@ -7,7 +7,7 @@ ghost use Rattle.filter.specs.Lent.{lent_all, lent_of};
 ghost use Rattle.probe_ticks.specs.Ticks as T;
 
 use answers::{Refusal, Reported};
-use clock::{TickOutputs, Ticked};
+use clock::Ticked;
 use control::State;
 use integrator::IntegratorState;
 use transients::TransientState;
@@ -86,19 +86,6 @@ fn put_state(block: &mut [u8], integrator: IntegratorState, transients: Transien
     next.encode(block);
 }
 
-fn put_tick(output: &mut [u8], o: TickOutputs)
-    ensures { output.new ≡ T.output_after_of o output.old }
-{
-    wire::put_row(
-        output,
-        0,
-        wire::float_bits(o.stage),
-        wire::float_bits(o.charge),
-        wire::float_bits(o.mixer),
-        wire::float_bits(o.filter),
-    );
-}
-
 // One tick: 1, 2, 4, 10, 12, 11, then what the controls and the tick refuse, and then block and output stay.
 #[unsafe(no_mangle)]
 pub extern "C" fn probe_tick(
@@ -125,7 +112,7 @@ pub extern "C" fn probe_tick(
     match block_tick(bundle, curves, decays, levels, voices, state, output.len()) {
         Ok(ticked) => {
             put_state(state, ticked.integrator, ticked.transients);
-            put_tick(output, ticked.outputs);
+            ticked.outputs.put(output, 0);
             TickReply {
                 number: 0,
                 buffer: 0,

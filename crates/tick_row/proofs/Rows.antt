@@ -15,8 +15,9 @@ use Rattle.controls.specs.declared.ControlCache.{ControlCache}
 use Rattle.clock.specs.declared.Settings.{Settings}
 use Rattle.clock.specs.declared.TickOutputs.{TickOutputs}
 use Rattle.clock.specs.declared.Ticked.{Ticked}
+use Rattle.clock.specs.Clock.{tick_bytes}
 use Rattle.tick_row.specs.declared.TickRow.{TickRow}
-use Rattle.tick_row.specs.TickRow.{voice_slices, tick_count_of, Ticks, no_ticks, one_tick, ticks_on, voiced_tick_of, ticks_of, ticks_end, tick_bytes, all_tick_bytes}
+use Rattle.tick_row.specs.TickRow.{voice_slices, tick_count_of, Ticks, no_ticks, one_tick, ticks_on, voiced_tick_of, ticks_of, ticks_end, all_tick_bytes}
 use Rattle.answers.specs.Answers.{Answer, done}
 use Rattle.std.specs.Prelude.{Err, Result, Float, Ok}
 use Rattle.answers.specs.declared.Refusal.{Refusal}

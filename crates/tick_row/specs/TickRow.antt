@@ -1,9 +1,6 @@
 -- Ticks in a row, between which only integrator and transients move: each takes the next 36 bytes of a row of voices.
 use Rattle.std.specs.Prelude.{ℕ, zero, suc, ◌+◌, ◌/◌, min, cond, List, [], ◌∷◌, ◌++◌, length, take, drop, Err, Result, Float, Ok}
-use Rattle.std.specs.Float.{binary32}
-use Rattle.std.specs.Float.Ieee.{to_bits}
 use Rattle.answers.specs.declared.Refusal.TheVariants.{Sources}
-use Rattle.wire.specs.Wire.{row_bytes}
 use Rattle.integrator.specs.declared.IntegratorState.{IntegratorState}
 use Rattle.transients.specs.declared.TransientState.{TransientState}
 use Rattle.signals.specs.Lent.{voices_of, valid_voices_of}
@@ -11,7 +8,7 @@ use Rattle.controls.specs.declared.ControlCache.{ControlCache}
 use Rattle.clock.specs.declared.Settings.{Settings}
 use Rattle.clock.specs.declared.TickOutputs.{TickOutputs}
 use Rattle.clock.specs.declared.Ticked.{Ticked}
-use Rattle.clock.specs.Clock.{tick_from_parts_of}
+use Rattle.clock.specs.Clock.{tick_bytes, tick_from_parts_of}
 use Rattle.tick_row.specs.declared.TickRow.{TickRow}
 use Rattle.answers.specs.Answers.{Answer, done}
 use Rattle.answers.specs.declared.Refusal.{Refusal}
@@ -64,10 +61,6 @@ module _ (curves : List ℕ) (c : ControlCache) (rest : Result Float Refusal) (s
 
 abbrev pub ticks_end : ℕ → Ticks → TickRow
 ticks_end done r = record { answer = r.answer; ticks = done + length r.outputs; integrator = r.integrator; transients = r.transients }
-
--- stage, charge, mixer and filter
-abbrev pub tick_bytes : TickOutputs → List ℕ
-tick_bytes o = row_bytes (to_bits binary32 o.stage) (to_bits binary32 o.charge) (to_bits binary32 o.mixer) (to_bits binary32 o.filter)
 
 unfoldable pub all_tick_bytes : List TickOutputs → List ℕ
 all_tick_bytes [] = []

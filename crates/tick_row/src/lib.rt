@@ -7,7 +7,7 @@ ghost use Rattle.sample.specs.Parts.{cache_of};
 ghost use Rattle.tick_row.specs.TickRow as T;
 
 use answers::{Answer, Refusal};
-use clock::{Settings, TickOutputs, Ticked};
+use clock::{Settings, Ticked};
 use integrator::IntegratorState;
 use refresh::CoreControls;
 use transients::TransientState;
@@ -26,20 +26,6 @@ fn tick_count(voices: usize, room: usize) -> usize
     ensures { result ≡ T.tick_count_of voices room }
 {
     (voices / 36).min(room / 16)
-}
-
-// Writes a tick's sixteen bytes.
-fn put_tick(output: &mut [u8], place: usize, o: TickOutputs)
-    ensures { output.new ≡ put_at output.old place (T.tick_bytes o) }
-{
-    wire::put_row(
-        output,
-        place,
-        wire::float_bits(o.stage),
-        wire::float_bits(o.charge),
-        wire::float_bits(o.mixer),
-        wire::float_bits(o.filter),
-    );
 }
 
 // One tick of the row: 11 of its voices, then what the tick refuses.
@@ -122,7 +108,7 @@ pub fn play_ticks(
             &voices[place..place + 36],
         ) {
             Ok(ticked) => {
-                put_tick(output, 16 * i, ticked.outputs);
+                ticked.outputs.put(output, 16 * i);
                 earlier = integrator;
                 integrator = ticked.integrator;
                 transients = ticked.transients;

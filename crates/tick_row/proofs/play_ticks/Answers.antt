@@ -13,7 +13,7 @@ loop-i-init c =
 pub loop-i-preserved : goal.loop-i-preserved
 loop-i-preserved c =
     let part : 36 * c.loop-i.i + 36 - 36 * c.loop-i.i ≡ 36 = omega arith in
-    rw c.put_tick.ensures (row_taken _ _ _ _ _ _ _ _ _ _ _ _ _ c.loop-i.invariant c.loop-i-test.true (rw part refl) c.voiced_tick.ensures _ c.in-Ok.is)
+    rw c.put.ensures (row_taken _ _ _ _ _ _ _ _ _ _ _ _ _ c.loop-i.invariant c.loop-i-test.true (rw part refl) c.voiced_tick.ensures _ c.in-Ok.is)
 
 pub returns-in-Err : goal.returns-in-Err
 returns-in-Err c =
