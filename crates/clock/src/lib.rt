@@ -87,6 +87,7 @@ pub struct Ticked {
 }
 
 // The six lent numbers, valid or not.
+#[tactic(auto, unfolding(crate::specs::Transients::factors_of))]
 pub fn factors_of(decays: &[u8]) -> Factors
     ensures { result ≡ T.factors_of decays.now }
 {
@@ -130,6 +131,7 @@ fn tracked_blend(tracking: f32, signal: VoiceSignal, blend: f32) -> f32
     blend + tracking * (target(signal) - blend)
 }
 
+#[tactic(auto, unfolding(crate::specs::Transients::tracked_blends_of))]
 fn tracked_blends(tracking: f32, voices: Voices, blends: SawBlends) -> SawBlends
     ensures { result ≡ T.tracked_blends_of tracking voices blends }
 {
@@ -164,6 +166,7 @@ fn combined_activity(voices: Voices) -> f32
 // ---- the charges
 
 // A rise of the pure voices' activity beside the filter charges the node anew.
+#[tactic(auto, unfolding(crate::specs::Transients::attacked_of))]
 fn attacked(mut held: TransientState, bypass_mask: u8, signals: RoutedSignals) -> TransientState
     ensures { result ≡ T.attacked_of held bypass_mask signals }
 {
@@ -180,6 +183,7 @@ fn attacked(mut held: TransientState, bypass_mask: u8, signals: RoutedSignals) -
 }
 
 // A pulse whose gate has risen is heard once it sounds beside the filter at a volume above 0.
+#[tactic(auto, unfolding(crate::specs::Transients::pulsed_of))]
 fn pulsed(mut held: TransientState, volume: u8, fraction: f32, pulse: f32) -> TransientState
     ensures { result ≡ T.pulsed_of held volume fraction pulse }
 {
@@ -193,6 +197,7 @@ fn pulsed(mut held: TransientState, volume: u8, fraction: f32, pulse: f32) -> Tr
 }
 
 // What the charges add to the stage's output.
+#[tactic(auto, unfolding(crate::specs::Transients::node_charge_of))]
 fn node_charge(held: TransientState) -> f32
     ensures { result ≡ T.node_charge_of held }
 {
@@ -200,6 +205,7 @@ fn node_charge(held: TransientState) -> f32
         - held.pulse_gate_slow_charge
 }
 
+#[tactic(auto, unfolding(crate::specs::Transients::decayed_of))]
 fn decayed(mut held: TransientState, factors: Factors) -> TransientState
     ensures { result ≡ T.decayed_of held factors }
 {
@@ -214,6 +220,7 @@ fn decayed(mut held: TransientState, factors: Factors) -> TransientState
 // ---- the rest of a tick, from the core's output on
 
 // The volume DAC's output: the operating point where all three voices stand still, else the volume's curve.
+#[tactic(auto, unfolding(crate::specs::Clock::volume_stage_of))]
 fn volume_stage(
     curves: &[u8],
     settings: Settings,
@@ -229,6 +236,7 @@ fn volume_stage(
 }
 
 // What the voices' direct currents take from the level.
+#[tactic(auto, unfolding(crate::specs::Clock::common_mode_displacement_of))]
 fn common_mode_displacement(
     output: OutputControls,
     combined: f32,
@@ -246,6 +254,7 @@ fn common_mode_displacement(
         + attack * output.volume_fraction
 }
 
+#[tactic(auto, unfolding(crate::specs::Clock::stage_argument_of))]
 fn stage_argument(level: f32, displacement: f32, gain: f32) -> f32
     ensures { result ≡ C.stage_argument_of level displacement gain }
 {
@@ -356,6 +365,7 @@ fn tracked(settings: Settings, voices: Voices, mut held: TransientState) -> Tran
     held
 }
 
+#[tactic(auto, unfolding(crate::specs::Clock::tick_signals_of))]
 fn tick_signals(settings: Settings, voices: Voices, held: TransientState) -> RoutedSignals
     ensures { result ≡ C.tick_signals_of settings voices held }
 {

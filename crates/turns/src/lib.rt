@@ -14,6 +14,7 @@ use filter::Core;
 // ---- what is lent
 
 // The external input's three levels are 12 bytes, each finite. Refuses 11.
+#[tactic(auto, unfolding(crate::specs::Turns::judge_levels_of, signals::specs::Lent::finite_three_at))]
 pub fn judge_levels(levels: &[u8]) -> Answer
     ensures { result ≡ T.judge_levels_of levels.now }
 {
@@ -24,6 +25,7 @@ pub fn judge_levels(levels: &[u8]) -> Answer
 }
 
 // A tick's three voices are 36 bytes, each valid. Refuses 11.
+#[tactic(auto, unfolding(crate::specs::Turns::judge_voices_of))]
 pub fn judge_voices(voices: &[u8]) -> Answer
     ensures { result ≡ T.judge_voices_of voices.now }
 {
