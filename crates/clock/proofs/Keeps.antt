@@ -289,7 +289,7 @@ module _ (s : Settings) (voices : Voices) (signals : RoutedSignals) (t : Transie
 
   after_core_kept : (curves : List ℕ) (c : Result Sampled Refusal) → Kept (C.after_core_of curves s voices signals t c)
   unfolding C.after_core_of
-  after_core_kept curves (Ok (record { outputs = o; state = i })) = mixed_kept curves i o.selected _
+  after_core_kept curves (Ok x) = mixed_kept curves x.state x.outputs.selected _
   after_core_kept curves (Err answer) = refl
 
 -- The state after a tick is finite, or the tick was refused before.

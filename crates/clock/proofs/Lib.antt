@@ -1,3 +1,2 @@
-pub mod Told
 pub mod Parts
 pub mod Keeps

@@ -1,11 +1,13 @@
 -- `Filter::clock` of filter.rs up to the argument of `AudioOutStage::process`, operation by operation and stage by stage: collecting, the core with its selection, the rest.
 -- A stage's 3 comes before its 6, and its 6 before the next stage.
 use Rattle.std.specs.Prelude.{ℕ, Bool, ◌&&◌, cond, List, eqb, Float, Err, Result, Ok}
-use Rattle.std.specs.Float.Ieee.{eq}
+use Rattle.std.specs.Float.{binary32}
+use Rattle.std.specs.Float.Ieee.{eq, to_bits}
 use Rattle.std.specs.Float.Ieee.Scale.{finite}
 use Rattle.constants.specs.Values as K
 use Rattle.answers.specs.declared.Refusal.TheVariants.{Domain}
 use Rattle.floats.specs.Arithmetic.{◌⊕◌, ◌⊖◌, ◌⊗◌, f32}
+use Rattle.wire.specs.Wire.{row_bytes}
 use Rattle.integrator.specs.declared.IntegratorState.{IntegratorState}
 use Rattle.mixing.specs.declared.MixingTopology.{MixingTopology}
 use Rattle.transients.specs.declared.TransientState.{TransientState}
@@ -25,6 +27,7 @@ use Rattle.activity.specs.Activity.{mixer_output_of, bypass_output_gain_of}
 use Rattle.frozen.specs.Frozen.{configured_of, frozen_dac_operating_point_of}
 use Rattle.clock.specs.declared.Slots.{Slots}
 use Rattle.clock.specs.declared.Settings.{Settings}
+use Rattle.clock.specs.declared.TickOutputs.{TickOutputs}
 use Rattle.clock.specs.declared.Ticked.{Ticked}
 use Rattle.clock.specs.Transients.{tracked_blends_of, with_blends, combined_activity_of, attacked_of, pulsed_of, node_charge_of, decayed_of}
 use Rattle.answers.specs.declared.Refusal.{Refusal}
@@ -32,6 +35,12 @@ use Rattle.answers.specs.declared.Refusal.{Refusal}
 -- The slots of the three curves in a buffer of all 31.
 abbrev pub slots_of : MixingTopology → ℕ → Slots
 slots_of t volume = record { summer = summer_slot_of t; mixer = mixer_slot_of t.mixer_input_count; volume = volume_slot_of volume }
+
+-- ---- what a tick gives
+
+-- stage, charge, mixer and filter
+abbrev pub tick_bytes : TickOutputs → List ℕ
+tick_bytes o = row_bytes (to_bits binary32 o.stage) (to_bits binary32 o.charge) (to_bits binary32 o.mixer) (to_bits binary32 o.filter)
 
 -- ---- collecting, with the blends of this tick
 
@@ -82,25 +91,26 @@ clocked_of s voices signals t i filter mixer level =
     let charge = node_charge_of held in
     let after = decayed_of held s.factors in
     cond (finite stage && finite charge && finite mixer)
-    (Ok (record { outputs = (record { stage = stage; charge = charge; mixer = mixer; filter = filter }); integrator = i; transients = after }))
+    (Ok (record { outputs = record { stage = stage; charge = charge; mixer = mixer; filter = filter }; integrator = i; transients = after }))
     (Err Domain)
 
 unfoldable pub levelled_of : Settings → Voices → RoutedSignals → TransientState → IntegratorState → Float → Float → Result Float Refusal → Result Ticked Refusal
 levelled_of s voices signals t i filter mixer (Ok level) = clocked_of s voices signals t i filter mixer level
-levelled_of s voices signals t i filter mixer (Err answer) = Err answer
+levelled_of s voices signals t i filter mixer (Err refusal) = Err refusal
 
 -- `mixer_output` from the raw one, then the volume
 unfoldable pub mixed_tick_of : List ℕ → Settings → Voices → RoutedSignals → TransientState → IntegratorState → Float → Result Float Refusal → Result Ticked Refusal
 mixed_tick_of curves s voices signals t i filter (Ok raw) =
     let mixer = mixer_output_of (is_quiescent_of s) signals.bypass_envelope_activity s.output.two_voice_volume_gain_offset raw in
     levelled_of s voices signals t i filter mixer (volume_stage_of curves s voices mixer)
-mixed_tick_of curves s voices signals t i filter (Err answer) = Err answer
+mixed_tick_of curves s voices signals t i filter (Err refusal) = Err refusal
 
 -- from what the core gave
 unfoldable pub after_core_of : List ℕ → Settings → Voices → RoutedSignals → TransientState → Result Sampled Refusal → Result Ticked Refusal
-after_core_of curves s voices signals t (Ok (record { outputs = o; state = i })) =
-    mixed_tick_of curves s voices signals t i o.selected (read_mixer_of curves s.slots.mixer s.topology (signals.bypass_input_sum ⊕ o.selected))
-after_core_of curves s voices signals t (Err answer) = Err answer
+after_core_of curves s voices signals t (Ok x) =
+    mixed_tick_of curves s voices signals t x.state x.outputs.selected
+    (read_mixer_of curves s.slots.mixer s.topology (signals.bypass_input_sum ⊕ x.outputs.selected))
+after_core_of curves s voices signals t (Err refusal) = Err refusal
 
 -- ---- the tick
 
@@ -115,8 +125,8 @@ tick_of curves core s t voices =
 
 -- 6 where the state after is not finite; its integrator the core has judged
 abbrev pub finite_after_of : Result Ticked Refusal → Result Ticked Refusal
-finite_after_of (Ok (record { outputs = o; integrator = i; transients = t })) = cond (finite_transients_of t) (Ok (record { outputs = o; integrator = i; transients = t })) (Err Domain)
-finite_after_of (Err answer) = Err answer
+finite_after_of (Ok x) = cond (finite_transients_of x.transients) (Ok x) (Err Domain)
+finite_after_of (Err refusal) = Err refusal
 
 unfoldable pub clock_of : List ℕ → List ℕ → ControlCache → Settings → IntegratorState → TransientState → Voices → Result Ticked Refusal
 clock_of bundle curves c s i t voices = finite_after_of (tick_of curves (filter_sample_of bundle curves s.slots.summer s.topology c s.mode i) s t voices)

@@ -1,13 +1,13 @@
 // One tick of the chip's clock, from three voices to the argument of the output stage.
 #![tactic(auto)]
 
-ghost use Rattle.std.specs.Prelude.{◌≡◌};
+ghost use Rattle.std.specs.Prelude.{◌≡◌, Ok};
+ghost use Rattle.wire.specs.Wire.{put_at};
 ghost use Rattle.sample.specs.Parts.{cache_of};
 ghost use Rattle.clock.specs.Transients as T;
 ghost use Rattle.clock.specs.Clock as C;
 
-use answers::Answer;
-use bundle::Read;
+use answers::Refusal;
 use constants::{
     FILTER_INPUT_COMMON_MODE_ONE_VOICE, FILTER_OUTPUT_GAIN, PURE_PULSE_GATE_RELAXATION_CHARGE,
     SID_OUTPUT_SCALE,
@@ -62,20 +62,32 @@ pub struct TickOutputs {
     pub filter: f32,
 }
 
-// A tick that went, with what it leaves, or one that was refused, which leaves all as it was.
+impl TickOutputs {
+    // Writes the sixteen bytes.
+    pub fn put(self, output: &mut [u8], place: usize)
+        ensures { output.new ≡ put_at output.old place (C.tick_bytes self) }
+    {
+        wire::put_row(
+            output,
+            place,
+            wire::float_bits(self.stage),
+            wire::float_bits(self.charge),
+            wire::float_bits(self.mixer),
+            wire::float_bits(self.filter),
+        );
+    }
+}
+
+// A tick that went, with what it leaves. One that is refused leaves all as it was.
 #[derive(Clone, Copy)]
-pub enum Ticked {
-    Clocked {
-        outputs: TickOutputs,
-        integrator: IntegratorState,
-        transients: TransientState,
-    },
-    Refused {
-        answer: Answer,
-    },
+pub struct Ticked {
+    pub outputs: TickOutputs,
+    pub integrator: IntegratorState,
+    pub transients: TransientState,
 }
 
 // The six lent numbers, valid or not.
+#[tactic(auto, unfolding(crate::specs::Transients::factors_of))]
 pub fn factors_of(decays: &[u8]) -> Factors
     ensures { result ≡ T.factors_of decays.now }
 {
@@ -119,16 +131,14 @@ fn tracked_blend(tracking: f32, signal: VoiceSignal, blend: f32) -> f32
     blend + tracking * (target(signal) - blend)
 }
 
+#[tactic(auto, unfolding(crate::specs::Transients::tracked_blends_of))]
 fn tracked_blends(tracking: f32, voices: Voices, blends: SawBlends) -> SawBlends
     ensures { result ≡ T.tracked_blends_of tracking voices blends }
 {
-    let one = voices.one;
-    let two = voices.two;
-    let three = voices.three;
     SawBlends {
-        one: tracked_blend(tracking, one, blends.one),
-        two: tracked_blend(tracking, two, blends.two),
-        three: tracked_blend(tracking, three, blends.three),
+        one: tracked_blend(tracking, voices.one, blends.one),
+        two: tracked_blend(tracking, voices.two, blends.two),
+        three: tracked_blend(tracking, voices.three, blends.three),
     }
 }
 
@@ -148,46 +158,46 @@ fn add_combined(sum: f32, signal: VoiceSignal) -> f32
 fn combined_activity(voices: Voices) -> f32
     ensures { result ≡ T.combined_activity_of voices }
 {
-    let one = voices.one;
-    let two = voices.two;
-    let three = voices.three;
-    add_combined(add_combined(add_combined(-0.0, one), two), three)
+    let one = add_combined(-0.0, voices.one);
+    let two = add_combined(one, voices.two);
+    add_combined(two, voices.three)
 }
 
 // ---- the charges
 
 // A rise of the pure voices' activity beside the filter charges the node anew.
-fn attacked(held: TransientState, bypass_mask: u8, signals: RoutedSignals) -> TransientState
+#[tactic(auto, unfolding(crate::specs::Transients::attacked_of))]
+fn attacked(mut held: TransientState, bypass_mask: u8, signals: RoutedSignals) -> TransientState
     ensures { result ≡ T.attacked_of held bypass_mask signals }
 {
-    let mut next = held;
     if bypass_mask == 0 {
-        next.previous_bypass_activity = 0.0;
-        return next;
+        held.previous_bypass_activity = 0.0;
+        return held;
     }
     let pure = signals.pure_bypass_envelope_activity;
     if held.previous_bypass_activity < pure {
-        next.bypass_attack_charge = activity::attack_charge(signals.pure_bypass_attack_drive, pure);
+        held.bypass_attack_charge = activity::attack_charge(signals.pure_bypass_attack_drive, pure);
     }
-    next.previous_bypass_activity = pure;
-    next
+    held.previous_bypass_activity = pure;
+    held
 }
 
 // A pulse whose gate has risen is heard once it sounds beside the filter at a volume above 0.
-fn pulsed(held: TransientState, volume: u8, fraction: f32, pulse: f32) -> TransientState
+#[tactic(auto, unfolding(crate::specs::Transients::pulsed_of))]
+fn pulsed(mut held: TransientState, volume: u8, fraction: f32, pulse: f32) -> TransientState
     ensures { result ≡ T.pulsed_of held volume fraction pulse }
 {
-    let mut next = held;
     if held.pulse_gate_pending & (0.0 < pulse) & (0 < volume) {
         let charge = PURE_PULSE_GATE_RELAXATION_CHARGE * fraction;
-        next.pulse_gate_fast_charge = charge;
-        next.pulse_gate_slow_charge = charge;
-        next.pulse_gate_pending = false;
+        held.pulse_gate_fast_charge = charge;
+        held.pulse_gate_slow_charge = charge;
+        held.pulse_gate_pending = false;
     }
-    next
+    held
 }
 
 // What the charges add to the stage's output.
+#[tactic(auto, unfolding(crate::specs::Transients::node_charge_of))]
 fn node_charge(held: TransientState) -> f32
     ensures { result ≡ T.node_charge_of held }
 {
@@ -195,32 +205,38 @@ fn node_charge(held: TransientState) -> f32
         - held.pulse_gate_slow_charge
 }
 
+#[tactic(auto, unfolding(crate::specs::Transients::decayed_of))]
 fn decayed(mut held: TransientState, factors: Factors) -> TransientState
     ensures { result ≡ T.decayed_of held factors }
 {
-    held.volume_fast_charge = held.volume_fast_charge * factors.volume_fast_decay;
-    held.volume_slow_charge = held.volume_slow_charge * factors.volume_slow_decay;
-    held.bypass_attack_charge = held.bypass_attack_charge * factors.bypass_attack_decay;
-    held.pulse_gate_fast_charge = held.pulse_gate_fast_charge * factors.pulse_gate_fast_decay;
-    held.pulse_gate_slow_charge = held.pulse_gate_slow_charge * factors.pulse_gate_slow_decay;
+    held.volume_fast_charge *= factors.volume_fast_decay;
+    held.volume_slow_charge *= factors.volume_slow_decay;
+    held.bypass_attack_charge *= factors.bypass_attack_decay;
+    held.pulse_gate_fast_charge *= factors.pulse_gate_fast_decay;
+    held.pulse_gate_slow_charge *= factors.pulse_gate_slow_decay;
     held
 }
 
 // ---- the rest of a tick, from the core's output on
 
 // The volume DAC's output: the operating point where all three voices stand still, else the volume's curve.
-fn volume_stage(curves: &[u8], settings: Settings, voices: Voices, mixer: f32) -> Result<f32, Refusal>
+#[tactic(auto, unfolding(crate::specs::Clock::volume_stage_of))]
+fn volume_stage(
+    curves: &[u8],
+    settings: Settings,
+    voices: Voices,
+    mixer: f32,
+) -> Result<f32, Refusal>
     ensures { result ≡ C.volume_stage_of curves.now settings voices mixer }
 {
-    let output = settings.output;
-    let slots = settings.slots;
-    if frozen::configured(output.frozen_dac_bias_mode, voices) {
+    if frozen::configured(settings.output.frozen_dac_bias_mode, voices) {
         return Ok(frozen::frozen_dac_operating_point(settings.mode, settings.volume));
     }
-    transfers::read_volume(curves, slots.volume, mixer)
+    transfers::read_volume(curves, settings.slots.volume, mixer)
 }
 
 // What the voices' direct currents take from the level.
+#[tactic(auto, unfolding(crate::specs::Clock::common_mode_displacement_of))]
 fn common_mode_displacement(
     output: OutputControls,
     combined: f32,
@@ -238,6 +254,7 @@ fn common_mode_displacement(
         + attack * output.volume_fraction
 }
 
+#[tactic(auto, unfolding(crate::specs::Clock::stage_argument_of))]
 fn stage_argument(level: f32, displacement: f32, gain: f32) -> f32
     ensures { result ≡ C.stage_argument_of level displacement gain }
 {
@@ -247,12 +264,10 @@ fn stage_argument(level: f32, displacement: f32, gain: f32) -> f32
 fn charged(settings: Settings, signals: RoutedSignals, held: TransientState) -> TransientState
     ensures { result ≡ C.charged_of settings signals held }
 {
-    let topology = settings.topology;
-    let output = settings.output;
     pulsed(
-        attacked(held, topology.bypass_internal_mask, signals),
+        attacked(held, settings.topology.bypass_internal_mask, signals),
         settings.volume,
-        output.volume_fraction,
+        settings.output.volume_fraction,
         signals.pure_pulse_envelope_activity,
     )
 }
@@ -267,102 +282,44 @@ fn clocked(
     filter: f32,
     mixer: f32,
     level: f32,
-) -> Ticked
+) -> Result<Ticked, Refusal>
     ensures { result ≡ C.clocked_of settings voices signals held integrator filter mixer level }
 {
-    let topology = settings.topology;
-    let output = settings.output;
-    let factors = settings.factors;
     let charged = charged(settings, signals, held);
     let displacement = common_mode_displacement(
-        output,
+        settings.output,
         combined_activity(voices),
         signals,
         charged.bypass_attack_charge,
     );
     let gain = activity::bypass_output_gain(
-        topology.filter_output_count,
+        settings.topology.filter_output_count,
         signals.bypass_envelope_activity,
     );
     let stage = stage_argument(level, displacement, gain);
     let charge = node_charge(charged);
-    let transients = decayed(charged, factors);
-    if floats::is_finite(stage) & floats::is_finite(charge) & floats::is_finite(mixer) {
-        return Ticked::Clocked {
-            outputs: TickOutputs {
-                stage,
-                charge,
-                mixer,
-                filter,
-            },
-            integrator,
-            transients,
-        };
-    }
-    Ticked::Refused {
-        answer: Err(Refusal::Domain),
-    }
+    let transients = decayed(charged, settings.factors);
+    answers::unless(
+        floats::is_finite(stage) & floats::is_finite(charge) & floats::is_finite(mixer),
+        Refusal::Domain,
+    )?;
+    Ok(Ticked {
+        outputs: TickOutputs {
+            stage,
+            charge,
+            mixer,
+            filter,
+        },
+        integrator,
+        transients,
+    })
 }
 
 // Whether nothing can sound beside the filter.
 fn is_quiescent(settings: Settings) -> bool
     ensures { result ≡ C.is_quiescent_of settings }
 {
-    let topology = settings.topology;
-    let external = settings.external;
-    (topology.bypass_internal_mask == 0) & (external.raw == 0.0)
-}
-
-// From what the volume's curve gave.
-fn levelled(
-    settings: Settings,
-    voices: Voices,
-    signals: RoutedSignals,
-    held: TransientState,
-    integrator: IntegratorState,
-    filter: f32,
-    mixer: f32,
-    level: Result<f32, Refusal>,
-) -> Ticked
-    ensures { result ≡ C.levelled_of settings voices signals held integrator filter mixer level }
-{
-    match level {
-        Err(answer) => Ticked::Refused { answer },
-        Ok(value) => clocked(
-            settings, voices, signals, held, integrator, filter, mixer, value,
-        ),
-    }
-}
-
-// From what the mixer's curve gave.
-fn mixed_tick(
-    curves: &[u8],
-    settings: Settings,
-    voices: Voices,
-    signals: RoutedSignals,
-    held: TransientState,
-    integrator: IntegratorState,
-    filter: f32,
-    mixed: Result<f32, Refusal>,
-) -> Ticked
-    ensures { result ≡ C.mixed_tick_of curves.now settings voices signals held integrator filter mixed }
-{
-    let output = settings.output;
-    match mixed {
-        Err(answer) => Ticked::Refused { answer },
-        Ok(raw) => {
-            let mixer = activity::mixer_output(
-                is_quiescent(settings),
-                signals.bypass_envelope_activity,
-                output.two_voice_volume_gain_offset,
-                raw,
-            );
-            let level = volume_stage(curves, settings, voices, mixer);
-            levelled(
-                settings, voices, signals, held, integrator, filter, mixer, level,
-            )
-        }
-    }
+    (settings.topology.bypass_internal_mask == 0) & (settings.external.raw == 0.0)
 }
 
 // From what the core gave: mixer and volume, each entry judged as it is read, then the rest.
@@ -373,22 +330,29 @@ fn after_core(
     signals: RoutedSignals,
     held: TransientState,
     sampled: Sampled,
-) -> Ticked
-    ensures { result ≡ C.after_core_of curves.now settings voices signals held sampled }
+) -> Result<Ticked, Refusal>
+    ensures { result ≡ C.after_core_of curves.now settings voices signals held (Ok sampled) }
 {
-    let slots = settings.slots;
-    let topology = settings.topology;
-    match sampled {
-        Sampled::Refused { answer } => Ticked::Refused { answer },
-        Sampled::Taken { outputs, state } => {
-            let filter = outputs.selected;
-            let sum = signals.bypass_input_sum + filter;
-            let mixed = transfers::read_mixer(curves, slots.mixer, topology, sum);
-            mixed_tick(
-                curves, settings, voices, signals, held, state, filter, mixed,
-            )
-        }
-    }
+    let filter = sampled.outputs.selected;
+    let sum = signals.bypass_input_sum + filter;
+    let raw = transfers::read_mixer(curves, settings.slots.mixer, settings.topology, sum)?;
+    let mixer = activity::mixer_output(
+        is_quiescent(settings),
+        signals.bypass_envelope_activity,
+        settings.output.two_voice_volume_gain_offset,
+        raw,
+    );
+    let level = volume_stage(curves, settings, voices, mixer)?;
+    clocked(
+        settings,
+        voices,
+        signals,
+        held,
+        sampled.state,
+        filter,
+        mixer,
+        level,
+    )
 }
 
 // ---- the tick
@@ -396,20 +360,22 @@ fn after_core(
 fn tracked(settings: Settings, voices: Voices, mut held: TransientState) -> TransientState
     ensures { result ≡ C.tracked_of settings voices held }
 {
-    let factors = settings.factors;
-    let before = held.saw_mixer_blend;
-    let blends = tracked_blends(factors.saw_mixer_tracking, voices, before);
-    held.saw_mixer_blend = blends;
+    let tracking = settings.factors.saw_mixer_tracking;
+    held.saw_mixer_blend = tracked_blends(tracking, voices, held.saw_mixer_blend);
     held
 }
 
+#[tactic(auto, unfolding(crate::specs::Clock::tick_signals_of))]
 fn tick_signals(settings: Settings, voices: Voices, held: TransientState) -> RoutedSignals
     ensures { result ≡ C.tick_signals_of settings voices held }
 {
-    let topology = settings.topology;
-    let external = settings.external;
-    let blends = held.saw_mixer_blend;
-    RoutedSignals::collect(topology, voices, blends, external, voice::source_resting())
+    RoutedSignals::collect(
+        settings.topology,
+        voices,
+        held.saw_mixer_blend,
+        settings.external,
+        voice::source_resting(),
+    )
 }
 
 // One tick on the parts of the controls, with the summer's rest worked out before, as `sample_from_parts` takes them.
@@ -426,65 +392,34 @@ pub fn tick_from_parts(
     earlier: IntegratorState,
     transients: TransientState,
     voices: Voices,
-) -> Ticked
+) -> Result<Ticked, Refusal>
     ensures { result ≡ C.tick_from_parts_of curves.now
         (cache_of gains.now input_drives.now feedback_drives.now core mode_output_gain)
         rest settings integrator transients voices }
 {
-    let slots = settings.slots;
-    let topology = settings.topology;
     let held = tracked(settings, voices, transients);
     let signals = tick_signals(settings, voices, held);
-    if signals.is_finite() {
-        let sampled = sample::sample_from_parts(
-            curves,
-            slots.summer,
-            topology,
-            gains,
-            input_drives,
-            feedback_drives,
-            core,
-            mode_output_gain,
-            rest,
-            settings.mode,
-            integrator,
-            earlier,
-            signals.filter_input_sum,
-            signals.filter_source_energy,
-        );
-        return after_core(curves, settings, voices, signals, held, sampled);
-    }
-    Ticked::Refused {
-        answer: Err(Refusal::Domain),
-    }
+    answers::unless(signals.is_finite(), Refusal::Domain)?;
+    let sampled = sample::sample_from_parts(
+        curves,
+        settings.slots.summer,
+        settings.topology,
+        gains,
+        input_drives,
+        feedback_drives,
+        core,
+        mode_output_gain,
+        rest,
+        settings.mode,
+        integrator,
+        earlier,
+        signals.filter_input_sum,
+        signals.filter_source_energy,
+    )?;
+    after_core(curves, settings, voices, signals, held, sampled)
 }
 
-// A tick that leaves transients which are not finite is refused.
-fn finite_after(ticked: Ticked) -> Ticked
-    ensures { result ≡ C.finite_after_of ticked }
-{
-    match ticked {
-        Ticked::Clocked {
-            outputs,
-            integrator,
-            transients,
-        } => {
-            if transients.is_finite() {
-                return Ticked::Clocked {
-                    outputs,
-                    integrator,
-                    transients,
-                };
-            }
-            Ticked::Refused {
-                answer: Err(Refusal::Domain),
-            }
-        }
-        Ticked::Refused { answer } => Ticked::Refused { answer },
-    }
-}
-
-// One tick on the controls that are handed in.
+// One tick on the controls that are handed in. A tick that leaves transients which are not finite is refused.
 pub fn clock(
     bundle: &[u8],
     curves: &[u8],
@@ -493,26 +428,27 @@ pub fn clock(
     integrator: IntegratorState,
     transients: TransientState,
     voices: Voices,
-) -> Ticked
+) -> Result<Ticked, Refusal>
     ensures { result ≡ C.clock_of bundle.now curves.now controls settings integrator transients voices }
 {
     let f = controls.filter;
-    let topology = settings.topology;
     let gains = f.integrator_gain;
     let input_drives = f.input_drive;
     let feedback_drives = f.feedback_drive;
-    finite_after(tick_from_parts(
+    let ticked = tick_from_parts(
         curves,
         &gains,
         &input_drives,
         &feedback_drives,
         refresh::core_controls(f),
         controls.mode_output_gain,
-        sample::rest_of(bundle, topology),
+        sample::rest_of(bundle, settings.topology),
         settings,
         integrator,
         integrator,
         transients,
         voices,
-    ))
+    )?;
+    answers::unless(ticked.transients.is_finite(), Refusal::Domain)?;
+    Ok(ticked)
 }

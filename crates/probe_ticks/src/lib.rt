@@ -6,12 +6,11 @@ ghost use Rattle.control.specs.Block.{decode_of};
 ghost use Rattle.filter.specs.Lent.{lent_all, lent_of};
 ghost use Rattle.probe_ticks.specs.Ticks as T;
 
-use answers::Answer;
-use clock::{TickOutputs, Ticked};
-use control::{Option<State>, State};
+use answers::{Refusal, Reported};
+use clock::Ticked;
+use control::State;
 use integrator::IntegratorState;
 use transients::TransientState;
-use turns::TickFed;
 
 // An answer by its numbers.
 #[repr(C)]
@@ -24,25 +23,7 @@ pub struct TickReply {
 
 // ---- the tick
 
-fn tick_left(answer: Answer, fed: TickFed) -> Ticked
-    ensures { result ≡ T.tick_left_of answer fed }
-{
-    if answer.is_ok() {
-        let outputs = fed.outputs;
-        let core = fed.core;
-        let state = core.state;
-        let integrator = state.integrator;
-        let transients = state.transients;
-        return Ticked::Clocked {
-            outputs,
-            integrator,
-            transients,
-        };
-    }
-    Ticked::Refused { answer }
-}
-
-// The core of a state, ticked once. What the tick judges of all that is lent comes before what the controls refuse.
+// The core of a state, ticked once. What is lent to the tick is all judged before the controls.
 fn state_tick(
     bundle: &[u8],
     curves: &[u8],
@@ -50,24 +31,28 @@ fn state_tick(
     levels: &[u8],
     voices: &[u8],
     state: State,
-) -> Ticked
+) -> Result<Ticked, Refusal>
     ensures { result ≡ T.state_tick_of (lent_all bundle.now curves.now decays.now) levels.now voices.now state }
 {
-    let started = turns::start(bundle, curves, decays, levels, state);
-    let refused = started.answer;
-    let core = started.core;
-    let judged = turns::judge_tick(core, bundle, curves, decays, levels, voices);
-    let fed = turns::tick(core, bundle, curves, decays, levels, voices);
-    let ticked = fed.answer;
-    tick_left(answers::first(judged, answers::first(refused, ticked)), fed)
+    filter::judge_lent(bundle, curves)?;
+    answers::unless(state.is_valid(), Refusal::Argument)?;
+    transients::judge_decays(decays)?;
+    turns::judge_levels(levels)?;
+    turns::judge_voices(voices)?;
+    let mut core = turns::start(bundle, curves, decays, levels, state)?;
+    let outputs = turns::tick(&mut core, bundle, curves, decays, levels, voices)?;
+    Ok(Ticked {
+        outputs,
+        integrator: core.state.integrator,
+        transients: core.state.transients,
+    })
 }
 
-fn no_block(bundle: &[u8], curves: &[u8]) -> Ticked
+fn no_block(bundle: &[u8], curves: &[u8]) -> Result<Ticked, Refusal>
     ensures { result ≡ T.no_block_of (lent_of bundle.now curves.now) }
 {
-    Ticked::Refused {
-        answer: answers::first(filter::judge_lent(bundle, curves), Err(Refusal::Argument)),
-    }
+    filter::judge_lent(bundle, curves)?;
+    Err(Refusal::Argument)
 }
 
 fn block_tick(
@@ -78,19 +63,16 @@ fn block_tick(
     voices: &[u8],
     block: &[u8],
     room: usize,
-) -> Ticked
+) -> Result<Ticked, Refusal>
     ensures { result ≡ T.block_tick_of (lent_all bundle.now curves.now decays.now) levels.now voices.now room (decode_of block.now) }
 {
-    let decoded = State::decode(block);
-    match decoded {
-        Some(state) => {
-            if room == 16 {
-                return state_tick(bundle, curves, decays, levels, voices, state);
-            }
-            no_block(bundle, curves)
-        }
-        None => no_block(bundle, curves),
+    let Some(state) = State::decode(block) else {
+        return no_block(bundle, curves);
+    };
+    if room != 16 {
+        return no_block(bundle, curves);
     }
+    state_tick(bundle, curves, decays, levels, voices, state)
 }
 
 // ---- what it leaves
@@ -102,19 +84,6 @@ fn put_state(block: &mut [u8], integrator: IntegratorState, transients: Transien
     next.integrator = integrator;
     next.transients = transients;
     next.encode(block);
-}
-
-fn put_tick(output: &mut [u8], o: TickOutputs)
-    ensures { output.new ≡ T.output_after_of o output.old }
-{
-    wire::put_row(
-        output,
-        0,
-        wire::float_bits(o.stage),
-        wire::float_bits(o.charge),
-        wire::float_bits(o.mixer),
-        wire::float_bits(o.filter),
-    );
 }
 
 // One tick: 1, 2, 4, 10, 12, 11, then what the controls and the tick refuse, and then block and output stay.
@@ -140,23 +109,18 @@ pub extern "C" fn probe_tick(
         (decode_of state.old))
         output.old }
 {
-    let ticked = block_tick(bundle, curves, decays, levels, voices, state, output.len());
-    match ticked {
-        Ticked::Clocked {
-            outputs,
-            integrator,
-            transients,
-        } => {
-            put_state(state, integrator, transients);
-            put_tick(output, outputs);
+    match block_tick(bundle, curves, decays, levels, voices, state, output.len()) {
+        Ok(ticked) => {
+            put_state(state, ticked.integrator, ticked.transients);
+            ticked.outputs.put(output, 0);
             TickReply {
                 number: 0,
                 buffer: 0,
                 place: 0,
             }
         }
-        Ticked::Refused { answer } => {
-            let told = answers::report(answer);
+        Err(refusal) => {
+            let told = Reported::from(refusal);
             TickReply {
                 number: told.number,
                 buffer: told.buffer,

@@ -1,29 +1,23 @@
 -- The loop over ticks: what it has done, and what is left, is the whole row. Assumes nothing.
-use Prim.Native.Nat.{ℕ, zero, suc, ◌+◌, ◌-◌, ◌*◌, ◌/◌, ◌≤◌, ◌<◌}
+use Prim.Native.Nat.{ℕ, zero, suc, ◌+◌, ◌-◌, ◌*◌, ◌≤◌, ◌<◌}
 use native.Mathlib.Omega.{arith}
 use native.Mathlib.Nat.{add-zero, div-mul-le_self}
 use mathlib.Core.Path.{◌≡◌, refl, sym, ap, ◌∙◌}
-use mathlib.Core.Bool.{Bool, true, false, cond}
 use mathlib.Core.List.{List, [], ◌∷◌}
-use lib.Dec.{ltb}
 use lib.ListN.{length, take, drop, length-append}
 use lib.Seq.{drop-drop}
 use lib.Ieee.{binary32, to_bits}
-use borrow.Author.Tests.{ltb-true, ltb-false}
-use Rattle.answers.specs.declared.Refusal.TheVariants.{Sources}
 use Rattle.wire.specs.Wire.{put_at, row_bytes}
 use Rattle.wire.proofs.Laws.{length-bytes_of, length-put_at, put_at_nil, put_at-join}
 use Rattle.integrator.specs.declared.IntegratorState.{IntegratorState}
 use Rattle.transients.specs.declared.TransientState.{TransientState}
-use Rattle.signals.specs.declared.Voices.{Voices}
-use Rattle.signals.specs.Lent.{voices_of, valid_voices_of}
 use Rattle.controls.specs.declared.ControlCache.{ControlCache}
 use Rattle.clock.specs.declared.Settings.{Settings}
 use Rattle.clock.specs.declared.TickOutputs.{TickOutputs}
 use Rattle.clock.specs.declared.Ticked.{Ticked}
-use Rattle.clock.specs.Clock.{tick_from_parts_of}
+use Rattle.clock.specs.Clock.{tick_bytes}
 use Rattle.tick_row.specs.declared.TickRow.{TickRow}
-use Rattle.tick_row.specs.TickRow.{voice_slices, tick_count_of, Ticks, no_ticks, one_tick, ticks_on, voiced_tick_of, ticks_of, ticks_end, tick_bytes, all_tick_bytes}
+use Rattle.tick_row.specs.TickRow.{voice_slices, tick_count_of, Ticks, no_ticks, one_tick, ticks_on, voiced_tick_of, ticks_of, ticks_end, all_tick_bytes}
 use Rattle.answers.specs.Answers.{Answer, done}
 use Rattle.std.specs.Prelude.{Err, Result, Float, Ok}
 use Rattle.answers.specs.declared.Refusal.{Refusal}
@@ -43,19 +37,8 @@ length_ticks (o ∷ os) = omega (arith, length-append (tick_bytes o) (all_tick_b
 
 -- ---- the count
 
-module _ (voices room : ℕ) where
-  count_either : (P : ℕ → Type 0) → (voices / 36 ≤ room / 16 → P (voices / 36)) → (room / 16 ≤ voices / 36 → P (room / 16)) → P (tick_count_of voices room)
-  count_either P a b = go (ltb (voices / 36) (room / 16)) refl
-    where
-      go : (t : Bool) → ltb (voices / 36) (room / 16) ≡ t → P (cond t (voices / 36) (room / 16))
-      go true h = a (omega (arith, ltb-true (voices / 36) (room / 16) h))
-      go false h = b (omega (arith, ltb-false (voices / 36) (room / 16) h))
-
-  pub count_voices : 36 * tick_count_of voices room ≤ voices
-  count_voices = count_either (λ n. 36 * n ≤ voices) (λ h. omega (arith, div-mul-le_self voices 36)) (λ h. omega (arith, div-mul-le_self voices 36))
-
-  pub count_room : 16 * tick_count_of voices room ≤ room
-  count_room = count_either (λ n. 16 * n ≤ room) (λ h. omega (arith, div-mul-le_self room 16)) (λ h. omega (arith, div-mul-le_self room 16))
+pub count_room : (voices room : ℕ) → 16 * tick_count_of voices room ≤ room
+count_room voices room = omega (arith, div-mul-le_self room 16)
 
 -- ---- the row
 
@@ -70,8 +53,8 @@ module _ (curves : List ℕ) (c : ControlCache) (rest : Result Float Refusal) (s
     where
       go : (x : Result Ticked Refusal) → ((j : IntegratorState) (u : TransientState) → length (ticks_of curves c rest s j u (voice_slices n (drop 36 b))).outputs ≤ n)
           → length (ticks_on (λ j u. ticks_of curves c rest s j u (voice_slices n (drop 36 b))) i t x).outputs ≤ suc n
-      go (Ok (record { outputs = o; integrator = j; transients = u })) later = omega (arith, later j u)
-      go (Err answer) later = omega arith
+      go (Ok x) later = omega (arith, later x.integrator x.transients)
+      go (Err refusal) later = omega arith
 
   module _ (voices : List ℕ) (count : ℕ) (out₀ : List ℕ) (from : IntegratorState) (held : TransientState) where
     -- what is left before tick k
@@ -102,9 +85,14 @@ module _ (curves : List ℕ) (c : ControlCache) (rest : Result Float Refusal) (s
       )
 
       pub row_end : count ≤ k
-          → (◌≡◌ {A = TickRow} (record { answer = done; ticks = k; integrator = j; transients = u }) (ticks_end 0 whole)) × (out ≡ put_at out₀ 0 (all_tick_bytes whole.outputs))
+          → (◌≡◌ {A = TickRow} (record { answer = done; ticks = count; integrator = j; transients = u }) (ticks_end 0 whole)) × (out ≡ put_at out₀ 0 (all_tick_bytes whole.outputs))
       unfolding ticks_of voice_slices
-      row_end h = let z : count - k ≡ 0 = omega arith in stops done (rw z refl)
+      row_end h =
+          let within = far.within in
+          let e : k ≡ count = omega arith in
+          let z : count - k ≡ 0 = omega arith in
+          let told = stops done (rw z refl) in
+          (rw e at told.0, told.1)
 
       module _ (more : k < count) {part : List ℕ} (part_is : part ≡ take 36 (drop (36 * k) voices)) {x : Result Ticked Refusal} (x_is : x ≡ voiced_tick_of curves c rest s j u part) where
         next : left k ≡ part ∷ left (k + 1)
@@ -118,19 +106,20 @@ module _ (curves : List ℕ) (c : ControlCache) (rest : Result Float Refusal) (s
         unfolding ticks_of
         row_is = ap (ticks j u) next ∙ rw x_is refl
 
-        pub row_refused : (answer : Answer) → x ≡ Err answer
-            → (◌≡◌ {A = TickRow} (record { answer = answer; ticks = k; integrator = j; transients = u }) (ticks_end 0 whole)) × (out ≡ put_at out₀ 0 (all_tick_bytes whole.outputs))
-        row_refused answer h = stops answer (row_is ∙ rw h refl)
+        pub row_refused : (refusal : Refusal) → x ≡ Err refusal
+            → (◌≡◌ {A = TickRow} (record { answer = Err refusal; ticks = k; integrator = j; transients = u }) (ticks_end 0 whole)) × (out ≡ put_at out₀ 0 (all_tick_bytes whole.outputs))
+        row_refused refusal h = stops (Err refusal) (row_is ∙ rw h refl)
 
-        pub row_taken : (o : TickOutputs) (i : IntegratorState) (t : TransientState) → x ≡ Ok (record { outputs = o; integrator = i; transients = t }) → Sofar (put_at out (16 * k) (tick_bytes o)) i t (k + 1)
+        pub row_taken : (y : Ticked) → x ≡ Ok y → Sofar (put_at out (16 * k) (tick_bytes y.outputs)) y.integrator y.transients (k + 1)
         unfolding all_tick_bytes
-        row_taken o i t h =
-            let later = ticks i t (left (k + 1)) in
+        row_taken y h =
+            let o = y.outputs in
+            let later = ticks y.integrator y.transients (left (k + 1)) in
             let all : ticks j u (left k) ≡ one_tick o later = row_is ∙ rw h refl in
             let room = far.room in
             let l = length-put_at out (16 * k) (tick_bytes o) in
             let n = length_ticks later.outputs in
-            let m = outputs_few (count - (k + 1)) i t (drop (36 * (k + 1)) voices) in
+            let m = outputs_few (count - (k + 1)) y.integrator y.transients (drop (36 * (k + 1)) voices) in
             let p : 16 * k + length (tick_bytes o) ≡ 16 * (k + 1) = omega (arith, length_tick o) in
             let done : k + 1 + length later.outputs ≡ k + suc (length later.outputs) = omega arith in
             record {
@@ -143,14 +132,3 @@ module _ (curves : List ℕ) (c : ControlCache) (rest : Result Float Refusal) (s
                   ∙ sym (ap (λ (r : Ticks). put_at out (16 * k) (all_tick_bytes r.outputs)) all)
                   ∙ far.puts;
             }
-
--- ---- one tick of it
-
-module _ (curves : List ℕ) (c : ControlCache) (rest : Result Float Refusal) (s : Settings) (i : IntegratorState) (t : TransientState) (v : List ℕ) {b : Bool} (b_is : b ≡ valid_voices_of v) where
-  pub voiced_on : b ≡ true → {w : Voices} → w ≡ voices_of v → {x : Result Ticked Refusal} → x ≡ tick_from_parts_of curves c rest s i t w → x ≡ voiced_tick_of curves c rest s i t v
-  unfolding voiced_tick_of
-  voiced_on h w_is x_is = rw (← b_is, h, ← w_is) x_is
-
-  pub voiced_off : b ≡ false → Err Sources ≡ voiced_tick_of curves c rest s i t v
-  unfolding voiced_tick_of
-  voiced_off h = rw (← b_is, h) refl

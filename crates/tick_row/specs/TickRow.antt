@@ -1,9 +1,6 @@
 -- Ticks in a row, between which only integrator and transients move: each takes the next 36 bytes of a row of voices.
-use Rattle.std.specs.Prelude.{ℕ, zero, suc, ◌+◌, ◌/◌, cond, List, [], ◌∷◌, ◌++◌, ltb, length, take, drop, Err, Result, Float, Ok}
-use Rattle.std.specs.Float.{binary32}
-use Rattle.std.specs.Float.Ieee.{to_bits}
+use Rattle.std.specs.Prelude.{ℕ, zero, suc, ◌+◌, ◌/◌, min, cond, List, [], ◌∷◌, ◌++◌, length, take, drop, Err, Result, Float, Ok}
 use Rattle.answers.specs.declared.Refusal.TheVariants.{Sources}
-use Rattle.wire.specs.Wire.{row_bytes}
 use Rattle.integrator.specs.declared.IntegratorState.{IntegratorState}
 use Rattle.transients.specs.declared.TransientState.{TransientState}
 use Rattle.signals.specs.Lent.{voices_of, valid_voices_of}
@@ -11,7 +8,7 @@ use Rattle.controls.specs.declared.ControlCache.{ControlCache}
 use Rattle.clock.specs.declared.Settings.{Settings}
 use Rattle.clock.specs.declared.TickOutputs.{TickOutputs}
 use Rattle.clock.specs.declared.Ticked.{Ticked}
-use Rattle.clock.specs.Clock.{tick_from_parts_of}
+use Rattle.clock.specs.Clock.{tick_bytes, tick_from_parts_of}
 use Rattle.tick_row.specs.declared.TickRow.{TickRow}
 use Rattle.answers.specs.Answers.{Answer, done}
 use Rattle.answers.specs.declared.Refusal.{Refusal}
@@ -25,7 +22,7 @@ voice_slices (suc n) b = take 36 b ∷ voice_slices n (drop 36 b)
 
 -- as many as so many bytes of voices have and so many of output hold
 abbrev pub tick_count_of : ℕ → ℕ → ℕ
-tick_count_of voices room = cond (ltb (voices / 36) (room / 16)) (voices / 36) (room / 16)
+tick_count_of voices room = min (voices / 36) (room / 16)
 
 -- ---- the ticks
 
@@ -44,8 +41,8 @@ one_tick o r = record { answer = r.answer; outputs = o ∷ r.outputs; integrator
 
 -- a tick, and what comes after it
 abbrev pub ticks_on : (IntegratorState → TransientState → Ticks) → IntegratorState → TransientState → Result Ticked Refusal → Ticks
-ticks_on later i t (Ok (record { outputs = o; integrator = j; transients = u })) = one_tick o (later j u)
-ticks_on later i t (Err answer) = no_ticks answer i t
+ticks_on later i t (Ok x) = one_tick x.outputs (later x.integrator x.transients)
+ticks_on later i t (Err refusal) = no_ticks (Err refusal) i t
 
 module _ (curves : List ℕ) (c : ControlCache) (rest : Result Float Refusal) (s : Settings) where
   -- 11 of its voices, then the tick
@@ -64,10 +61,6 @@ module _ (curves : List ℕ) (c : ControlCache) (rest : Result Float Refusal) (s
 
 abbrev pub ticks_end : ℕ → Ticks → TickRow
 ticks_end done r = record { answer = r.answer; ticks = done + length r.outputs; integrator = r.integrator; transients = r.transients }
-
--- stage, charge, mixer and filter
-abbrev pub tick_bytes : TickOutputs → List ℕ
-tick_bytes o = row_bytes (to_bits binary32 o.stage) (to_bits binary32 o.charge) (to_bits binary32 o.mixer) (to_bits binary32 o.filter)
 
 unfoldable pub all_tick_bytes : List TickOutputs → List ℕ
 all_tick_bytes [] = []

@@ -6,9 +6,8 @@ ghost use Rattle.wire.specs.Wire.{put_at};
 ghost use Rattle.sample.specs.Parts.{cache_of};
 ghost use Rattle.tick_row.specs.TickRow as T;
 
-use answers::Answer;
-use bundle::Read;
-use clock::{Settings, TickOutputs, Ticked};
+use answers::{Answer, Refusal};
+use clock::{Settings, Ticked};
 use integrator::IntegratorState;
 use refresh::CoreControls;
 use transients::TransientState;
@@ -26,23 +25,7 @@ pub struct TickRow {
 fn tick_count(voices: usize, room: usize) -> usize
     ensures { result ≡ T.tick_count_of voices room }
 {
-    let has = voices / 36;
-    let holds = room / 16;
-    if has < holds { has } else { holds }
-}
-
-// Writes a tick's sixteen bytes.
-fn put_tick(output: &mut [u8], place: usize, o: TickOutputs)
-    ensures { output.new ≡ put_at output.old place (T.tick_bytes o) }
-{
-    wire::put_row(
-        output,
-        place,
-        wire::float_bits(o.stage),
-        wire::float_bits(o.charge),
-        wire::float_bits(o.mixer),
-        wire::float_bits(o.filter),
-    );
+    (voices / 36).min(room / 16)
 }
 
 // One tick of the row: 11 of its voices, then what the tick refuses.
@@ -59,30 +42,26 @@ fn voiced_tick(
     earlier: IntegratorState,
     transients: TransientState,
     voices: &[u8],
-) -> Ticked
+) -> Result<Ticked, Refusal>
     ensures { result ≡ T.voiced_tick_of curves.now
         (cache_of gains.now input_drives.now feedback_drives.now core mode_output_gain)
         rest settings integrator transients voices.now }
 {
-    if signals::valid_voices(voices) {
-        return clock::tick_from_parts(
-            curves,
-            gains,
-            input_drives,
-            feedback_drives,
-            core,
-            mode_output_gain,
-            rest,
-            settings,
-            integrator,
-            earlier,
-            transients,
-            signals::voices_of(voices),
-        );
-    }
-    Ticked::Refused {
-        answer: Err(Refusal::Sources),
-    }
+    answers::unless(signals::valid_voices(voices), Refusal::Sources)?;
+    clock::tick_from_parts(
+        curves,
+        gains,
+        input_drives,
+        feedback_drives,
+        core,
+        mode_output_gain,
+        rest,
+        settings,
+        integrator,
+        earlier,
+        transients,
+        signals::voices_of(voices),
+    )
 }
 
 // The ticks of a row of voices, up to one that is refused, on the parts of the controls as `tick_from_parts` takes them: 11, 3, 6. Their numbers go into the output, 16
@@ -112,11 +91,8 @@ pub fn play_ticks(
     let mut integrator = from;
     let mut earlier = from;
     let mut transients = held;
-    let mut i = 0;
-    while i < count {
+    for i in 0..count {
         let place = 36 * i;
-        let end = place + 36;
-        let row = 16 * i;
         match voiced_tick(
             curves,
             gains,
@@ -129,22 +105,17 @@ pub fn play_ticks(
             integrator,
             earlier,
             transients,
-            &voices[place..end],
+            &voices[place..place + 36],
         ) {
-            Ticked::Clocked {
-                outputs,
-                integrator: next,
-                transients: left,
-            } => {
-                put_tick(output, row, outputs);
+            Ok(ticked) => {
+                ticked.outputs.put(output, 16 * i);
                 earlier = integrator;
-                integrator = next;
-                transients = left;
-                i += 1;
+                integrator = ticked.integrator;
+                transients = ticked.transients;
             }
-            Ticked::Refused { answer } => {
+            Err(refusal) => {
                 return TickRow {
-                    answer,
+                    answer: Err(refusal),
                     ticks: i,
                     integrator,
                     transients,
@@ -154,7 +125,7 @@ pub fn play_ticks(
     }
     TickRow {
         answer: Ok(()),
-        ticks: i,
+        ticks: count,
         integrator,
         transients,
     }

@@ -2,7 +2,7 @@
 -- of them all that is kept is as worked out afresh.
 use Prim.Native.Nat.{ℕ}
 use mathlib.Core.Path.{◌≡◌, refl, sym, ap, ◌∙◌, subst}
-use mathlib.Core.Bool.{Bool, true, false, not, cond, true≢false}
+use mathlib.Core.Bool.{true, cond}
 use mathlib.Core.List.{List, [], ◌∷◌}
 use Rattle.answers.specs.declared.Refusal.TheVariants.{Argument}
 use Rattle.answers.specs.Answers.{unless_of, Answer, done}
@@ -23,8 +23,7 @@ use Rattle.filter.specs.declared.Core.{Core}
 use Rattle.filter.specs.Lent.{Lent, judge_lent_of}
 use Rattle.filter.specs.Core.{fresh_topology_of, core_of}
 use Rattle.filter.proofs.Demand3.{Invariant, steps, core_judged, fresh_invariant}
-use Rattle.turns.specs.declared.TickFed.{TickFed}
-use Rattle.turns.specs.Turns.{judge_levels_of, judge_voices_of, turn_start, turn_start_of, after_state, unticked_of, ticked_of, take_tick_of, core_tick_of}
+use Rattle.turns.specs.Turns.{TickFed, judge_levels_of, judge_voices_of, turn_start, turn_start_of, after_state, unticked_of, ticked_of, take_tick_of, core_tick_of}
 use Rattle.turns.specs.Machine.{Turn, event, tick, PlainTurn, event_turn, plain_clocked, plain_tick, plain_turn, plain_turns}
 use Rattle.turns.specs.Lists.{TurnFed, tick_turn, turn_of, core_turns, shown_turn, shown_turns, AllTurnsFresh}
 use Rattle.turns.proofs.Good.{good_tick, clock_good}
@@ -48,27 +47,21 @@ module _ (l : Lent) (levels : List ℕ) (s : State) (valid : valid_of s ≡ true
 
   ticked_plain : (x : Result Ticked Refusal) → good_tick x ≡ true → Ticks (ticked_of (core_of l s) x) (plain_clocked s x)
   unfolding good_tick
-  ticked_plain (Ok (record { outputs = o; integrator = i; transients = t })) g =
-      let p = both (finite_floats_of i) (finite_transients_of t) g in
-      (refl, after_tick i t p.0 p.1)
-  ticked_plain (Err a) g = go (is_ok a) refl g
-    where
-      go : (d : Bool) → is_ok a ≡ d → not d ≡ true → Ticks (ticked_of (core_of l s) (Err a)) (plain_clocked s (Err a))
-      go true h n = absurd (true≢false (sym n))
-      go false h n = rw h (refl, fresh_invariant l s valid judged)
+  ticked_plain (Ok x) g = let p = both (finite_floats_of x.integrator) (finite_transients_of x.transients) g in (refl, after_tick x.integrator x.transients p.0 p.1)
+  ticked_plain (Err refusal) g = (refl, fresh_invariant l s valid judged)
 
   -- what a bad voice refuses, on either side
-  guarded_plain : (v : Answer) (d : Bool) → is_ok v ≡ d → (x : Result Ticked Refusal) → good_tick x ≡ true
+  guarded_plain : (v : Answer) (x : Result Ticked Refusal) → good_tick x ≡ true
       → Ticks (cond (is_ok v) (ticked_of (core_of l s) x) (unticked_of v (core_of l s))) (cond (is_ok v) (plain_clocked s x) (record { answer = v; rows = []; state = s }))
-  guarded_plain v true h x g = rw h (ticked_plain x g)
-  guarded_plain v false h x g = rw (h, h) (refl, fresh_invariant l s valid judged)
+  guarded_plain (Ok _) x g = ticked_plain x g
+  guarded_plain (Err refusal) x g = (refl, fresh_invariant l s valid judged)
 
   tick_steps : judge_lent_of l ≡ done → judge_decays_of l.decays ≡ done → judge_levels_of levels ≡ done → (voices : List ℕ)
       → Ticks (core_tick_of l levels (core_of l s) voices) (plain_tick l levels s voices)
   unfolding core_tick_of plain_tick take_tick_of controls_of
   tick_steps ready decayed levelled voices =
       rw (ready, core_judged l s valid judged, decayed, levelled, judged, first_of_done (judge_voices_of voices))
-      (guarded_plain (judge_voices_of voices) (is_ok (judge_voices_of voices)) refl _ (clock_good l.bundle l.curves _ _ s.integrator s.transients (voices_of voices) (valid_ranges s valid).floats))
+      (guarded_plain (judge_voices_of voices) _ (clock_good l.bundle l.curves _ _ s.integrator s.transients (voices_of voices) (valid_ranges s valid).floats))
 
 -- ---- any turn
 
@@ -118,14 +111,11 @@ module _ (l : Lent) (levels : List ℕ) (s : State) (started : turn_start l leve
       let t = first_done (judge_levels_of levels) (judge_controls_of l.bundle s) r.1 in
       record { ready = p.0; valid = unless_done (valid_of s) Argument q.0; decayed = r.0; levelled = t.0; judged = t.1 }
 
-  turn_start_core : (turn_start_of l levels s).core ≡ core_of l s
-  turn_start_core = rw turn_start_parts.judged refl
-
   turn_start_agrees : (xs : List Turn)
       → TurnsAgree l levels turn_start_parts.ready turn_start_parts.decayed turn_start_parts.levelled (turn_start_of l levels s).core xs
   turn_start_agrees xs =
       let p = turn_start_parts in
-      rw turn_start_core (turns_agree l levels p.ready p.decayed p.levelled (core_of l s) xs (fresh_invariant l s p.valid p.judged))
+      turns_agree l levels p.ready p.decayed p.levelled (core_of l s) xs (fresh_invariant l s p.valid p.judged)
 
 -- DEMAND 3, the first half, with ticks. For all that is lent, every state and every list of events and ticks: the start is answered as the plain machine answers it; and where it is
 -- not refused, every sample, tick, state and refusal of the list is the plain machine's, and after each all that is kept equals what is worked out afresh from the state.

@@ -1,3 +1,2 @@
-pub mod Told
 pub mod Good
 pub mod Demand3

@@ -4,8 +4,7 @@ use Rattle.filter.specs.declared.Core.{Core}
 use Rattle.filter.specs.Lent.{Lent}
 use Rattle.filter.specs.Core.{feed_of}
 use Rattle.filter.specs.Lists.{shown, Fresh}
-use Rattle.turns.specs.declared.TickFed.{TickFed}
-use Rattle.turns.specs.Turns.{core_tick_of}
+use Rattle.turns.specs.Turns.{TickFed, core_tick_of}
 use Rattle.turns.specs.Machine.{Turn, event, tick, Row, clocked, PlainTurn, sampled_all}
 use Rattle.answers.specs.Answers.{Answer}
 
@@ -18,7 +17,7 @@ pub record TurnFed : Type 0 where
 abbrev pub tick_turn : TickFed → TurnFed
 tick_turn r = record { answer = r.answer; rows = cond (is_ok r.answer) (clocked r.outputs ∷ []) []; core = r.core }
 
--- `feed_of` is what `Core::feed` is proved to give, and `core_tick_of` what `tick` is.
+-- `feed_of` is what `Core::feed` is proved to give and leave, and `core_tick_of` what `tick` is.
 abbrev pub turn_of : Lent → List ℕ → Core → Turn → TurnFed
 turn_of l levels k (event e) =
     let r = feed_of l k e in

@@ -44,8 +44,8 @@ event_turn p = record { answer = p.answer; rows = sampled_all p.sample; state = 
 -- ---- a tick: 11, then 3 and 6 of the controls, then the stages of `Filter::clock`
 
 abbrev pub plain_clocked : State → Result Ticked Refusal → PlainTurn
-plain_clocked s (Ok (record { outputs = outputs; integrator = i; transients = t })) = record { answer = done; rows = clocked outputs ∷ []; state = after_state s i t }
-plain_clocked s (Err answer) = record { answer = answer; rows = []; state = s }
+plain_clocked s (Ok x) = record { answer = done; rows = clocked x.outputs ∷ []; state = after_state s x.integrator x.transients }
+plain_clocked s (Err refusal) = record { answer = Err refusal; rows = []; state = s }
 
 -- with topology and controls worked out afresh
 unfoldable pub plain_tick : Lent → List ℕ → State → List ℕ → PlainTurn

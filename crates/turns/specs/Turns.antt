@@ -1,6 +1,7 @@
--- A tick on a core (docs/FORMATS.md): what it is lent beside bundle, curves and decays, what it reads of the core, what it refuses and what it hands back.
+-- A tick on a core (docs/FORMATS.md): what it is lent beside bundle, curves and decays, what it reads of the core, what it refuses and what it leaves.
 use Rattle.std.specs.Prelude.{ℕ, cond, ◌&&◌, List, eqb, length, Err, is_ok, Result, Ok}
 use Rattle.answers.specs.declared.Refusal.TheVariants.{Argument, Sources}
+use Rattle.std.specs.Result.{result_and}
 use Rattle.answers.specs.Answers.{first_of, unless_of, Answer, done}
 use Rattle.floats.specs.Arithmetic.{f32}
 use Rattle.integrator.specs.declared.IntegratorState.{IntegratorState}
@@ -19,10 +20,8 @@ use Rattle.clock.specs.declared.Ticked.{Ticked}
 use Rattle.clock.specs.Transients.{factors_of}
 use Rattle.clock.specs.Clock.{slots_of, clock_of}
 use Rattle.filter.specs.declared.Core.{Core}
-use Rattle.filter.specs.Core.{Written}
 use Rattle.filter.specs.Lent.{Lent, judge_lent_of}
-use Rattle.filter.specs.Core.{core_start_of, judge_take_of}
-use Rattle.turns.specs.declared.TickFed.{TickFed}
+use Rattle.filter.specs.Core.{Written, core_start_of, judge_take_of}
 use Rattle.answers.specs.declared.Refusal.{Refusal}
 
 -- ---- 11
@@ -63,6 +62,16 @@ settings_of l levels r t output =
 
 -- ---- the tick
 
+-- A tick's answer, with the outputs of one that was taken, and zeros in any other case, and the core after it.
+pub record TickFed : Type 0 where
+  pub answer : Answer
+  pub outputs : TickOutputs
+  pub core : Core
+
+-- What a tick answers, beside the core after it.
+abbrev pub tick_outputs_of : TickFed → Result TickOutputs Refusal
+tick_outputs_of r = result_and r.answer (Ok r.outputs)
+
 abbrev pub no_tick_outputs : TickOutputs
 no_tick_outputs = record { stage = f32 0; charge = f32 0; mixer = f32 0; filter = f32 0 }
 
@@ -75,9 +84,9 @@ after_state s i t = record { registers = s.registers; integrator = i; transients
 
 -- and so does all that is kept
 abbrev pub ticked_of : Core → Result Ticked Refusal → TickFed
-ticked_of k (Ok (record { outputs = outputs; integrator = i; transients = t })) =
-    record { answer = done; outputs = outputs; core = record { state = after_state k.state i t; topology = k.topology; controls = k.controls } }
-ticked_of k (Err answer) = unticked_of answer k
+ticked_of k (Ok x) =
+    record { answer = done; outputs = x.outputs; core = record { state = after_state k.state x.integrator x.transients; topology = k.topology; controls = k.controls } }
+ticked_of k (Err refusal) = unticked_of (Err refusal) k
 
 -- the topology and the controls as they are handed in
 unfoldable pub take_tick_of : Lent → List ℕ → Core → List ℕ → TickFed

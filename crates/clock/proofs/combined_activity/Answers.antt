@@ -5,7 +5,7 @@ use Rattle.clock.proofs.combined_activity.Goals as goal
 pub returns : goal.returns
 unfolding combined_activity_of neg of_bits
 returns c = simp (
-  c.add_combined-3.ensures,
-  c.add_combined-2.ensures,
   c.add_combined.ensures,
+  c.add_combined-two.ensures,
+  c.add_combined-one.ensures,
 )

@@ -1,11 +1,16 @@
-use Rattle.turns.proofs.Told.{tick_goes, tick_refused}
+use mathlib.Core.Path.{sym, ◌∙◌}
+use Rattle.answers.proofs.Laws.{handed_on}
 use Rattle.turns.specs.Turns.{core_tick_of}
 use Rattle.turns.proofs.tick.Goals as goal
 
-pub returns-then-is_done : goal.returns-then-is_done
+pub returns-in_err-judge_tick : goal.returns-in_err-judge_tick
 unfolding core_tick_of
-returns-then-is_done c = tick_goes _ _ _ c.judge_tick-judged.ensures c.is_done.ensures c.if-is_done.true c.take_tick.ensures
+returns-in_err-judge_tick c =
+    let judged = sym c.judge_tick.ensures ∙ c.in_err-judge_tick.was in
+    record { value = handed_on _ c.from_residual.ensures ∙ simp judged; core_after = simp judged }
 
 pub returns : goal.returns
 unfolding core_tick_of
-returns c = tick_refused _ _ _ c.judge_tick-judged.ensures c.is_done.ensures c.if-is_done.false c.unticked.ensures
+returns c =
+    let judged = sym c.judge_tick.ensures ∙ c.in_ok-judge_tick.was in
+    record { value = simp (judged, c.take_tick.ensures.value); core_after = simp (judged, c.take_tick.ensures.core_after) }
