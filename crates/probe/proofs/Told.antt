@@ -1,5 +1,4 @@
 -- What `Core::feed` answers is the whole of an event's answer and outputs: zeros stand for any that it does not name.
-use Rattle.std.proofs.Common.{ap}
 use Rattle.std.specs.Prelude.{◌≡◌, refl, Bool, true, false, cond, Result, Ok, Err, Option, Some, None}
 use Rattle.std.specs.Option.{unwrap_or}
 use Rattle.std.specs.Result.{result_and, result_unwrap_or}

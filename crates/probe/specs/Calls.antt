@@ -1,5 +1,5 @@
 -- What the comparison asks of the direct calls: zeros stand beside a refusal.
-use Rattle.std.specs.Prelude.{List, [], ◌∷◌, false, Result}
+use Rattle.std.specs.Prelude.{[], ◌∷◌, false, Result}
 use Rattle.std.specs.Result.{result_unwrap_or}
 use Rattle.answers.specs.declared.Refusal.{Refusal}
 use Rattle.answers.specs.Answers.{answer_of, number_of}

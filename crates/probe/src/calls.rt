@@ -7,13 +7,12 @@ ghost use Rattle.direct.specs.Calls as C;
 ghost use Rattle.probe.specs.Replies.{reply_of};
 ghost use Rattle.probe.specs.Calls.{no_advanced, no_topology, no_bins, point_reply_of, step_reply_of, route_reply_of, bin_reply_of};
 
+use crate::replies::{self, Reply, Told};
 use answers::Refusal;
 use curves::CurvePoint;
 use integrator::{Advanced, Coefficients, FilterOutputs, IntegratorState};
 use mixing::MixingTopology;
 use response::TablePosition;
-
-use crate::replies::{self, Reply, Told};
 
 // A point of a curve.
 #[repr(C)]

@@ -4,6 +4,7 @@ ghost use Rattle.script.specs.Script.{event_at};
 ghost use Rattle.filter.specs.Lent.{lent_all};
 ghost use Rattle.probe.specs.Cores as K;
 
+use crate::replies::{self, Told};
 use answers::Refusal;
 use control::{FilterRegisters, State};
 use controls::ControlCache;
@@ -12,8 +13,6 @@ use integrator::IntegratorState;
 use mixing::MixingTopology;
 use sample::Outputs;
 use transients::TransientState;
-
-use crate::replies::{self, Told};
 
 // The registers as C lays them out.
 #[repr(C)]

@@ -4,13 +4,12 @@ ghost use Rattle.control.specs.Block.{decode_of};
 ghost use Rattle.probe.specs.Probe.{state_or};
 ghost use Rattle.probe.specs.Steps.{sample_step_of, fresh_sample_of};
 
+use crate::replies::{self, Told};
 use answers::Refusal;
 use control::State;
 use integrator::IntegratorState;
 use mixing::MixingTopology;
 use sample::{Outputs, Sampled};
-
-use crate::replies::{self, Told};
 
 // An answer by its numbers, the four outputs and the integrator's three numbers after the sample; zeros where it is refused.
 #[repr(C)]

@@ -5,10 +5,9 @@ ghost use Rattle.direct.specs.Calls.{load_position_call_of, sample_call_of};
 ghost use Rattle.probe.specs.Replies.{reply_of};
 ghost use Rattle.probe.specs.Surface.{load_of};
 
+use crate::replies::{self, Reply};
 use answers::Refusal;
 use curves::AnalogueLoadPosition;
-
-use crate::replies::{self, Reply};
 
 // The number of an answer, and the position beside it, of a type that C does not have.
 #[repr(C)]
