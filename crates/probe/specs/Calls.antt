@@ -13,12 +13,13 @@ use Rattle.probe.specs.declared.calls.PointReply.{PointReply}
 use Rattle.probe.specs.declared.calls.StepReply.{StepReply}
 use Rattle.probe.specs.declared.calls.RouteReply.{RouteReply}
 use Rattle.probe.specs.declared.calls.BinReply.{BinReply}
+use Rattle.probe.specs.Probe.{no_state}
 use Rattle.probe.specs.Replies.{told_of}
 
 abbrev pub no_advanced : Advanced
 no_advanced = record {
   outputs = record { high_pass = f32 0; band_pass = f32 0; low_pass = f32 0 };
-  state = record { band_state = f32 0; low_state = f32 0; filter_source_energy = f32 0 };
+  state = no_state;
 }
 
 abbrev pub no_topology : MixingTopology

@@ -55,11 +55,7 @@ fn no_advanced() -> Advanced
             band_pass: 0.0,
             low_pass: 0.0,
         },
-        state: IntegratorState {
-            band_state: 0.0,
-            low_state: 0.0,
-            filter_source_energy: 0.0,
-        },
+        state: crate::no_state(),
     }
 }
 

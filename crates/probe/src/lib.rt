@@ -117,6 +117,7 @@ pub extern "C" fn probe_effective_cutoff(block: &[u8]) -> u16
     }
 }
 
+// By the register's number: C has no other name for it.
 #[tactic(auto, unfolding(crate::specs::Probe::write_of))]
 fn write(state: State, register: u8, value: u8) -> State
     ensures { result ≡ write_of state register value }

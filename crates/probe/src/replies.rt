@@ -4,7 +4,7 @@ ghost use Rattle.probe.specs.Replies.{told_of, parted_of, reply_of};
 
 use answers::{Answer, Refusal};
 
-// The three numbers of an answer, as C lays them out.
+// The three numbers of an answer: `answers::Reported` as C lays it out.
 #[repr(C)]
 #[derive(Clone, Copy)]
 pub struct Told {

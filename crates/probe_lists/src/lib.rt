@@ -11,7 +11,7 @@ use filter::Core;
 use mixing::MixingTopology;
 use sample::Outputs;
 
-// The event at a place of a script, and 7 where there is none.
+// The event at a place of a script, and 7 where there is none. The crate probe has the same, and the zeros below: it exports C names, so neither can use the other.
 fn feed_at(
     bundle: &[u8],
     curves: &[u8],
@@ -66,6 +66,9 @@ fn refused_core(bundle: &[u8], state: State) -> Core {
 
 // ---- rows: 108 words that follow an event
 
+// Each part stands at a place of its own, which is below the bound that it asks, and is written where it fits whole. A place that moved on with what is written
+// would be no plainer: its bound would stand at every word.
+
 // A count, and 65,536 for any that is larger.
 fn word(n: usize) -> u32 {
     n.min(65536) as u32
@@ -82,17 +85,17 @@ fn put_floats(out: &mut [u8], at: usize, a: f32, b: f32, c: f32, d: f32) {
     );
 }
 
-fn put_flags(out: &mut [u8], at: usize, f: [bool; 4]) {
-    wire::put_row(out, at, f[0] as u32, f[1] as u32, f[2] as u32, f[3] as u32);
+fn put_flags(out: &mut [u8], at: usize, [a, b, c, d]: [bool; 4]) {
+    wire::put_row(out, at, a as u32, b as u32, c as u32, d as u32);
 }
 
 fn put_sixteen(out: &mut [u8], at: usize, x: [f32; 16])
     requires { at ≤ 1000000000 }
 {
-    put_floats(out, at, x[0], x[1], x[2], x[3]);
-    put_floats(out, at + 16, x[4], x[5], x[6], x[7]);
-    put_floats(out, at + 32, x[8], x[9], x[10], x[11]);
-    put_floats(out, at + 48, x[12], x[13], x[14], x[15]);
+    for i in 0..4 {
+        let j = 4 * i;
+        put_floats(out, at + 4 * j, x[j], x[j + 1], x[j + 2], x[j + 3]);
+    }
 }
 
 fn put_state(out: &mut [u8], at: usize, s: State) {
