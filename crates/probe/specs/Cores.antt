@@ -1,18 +1,23 @@
 -- What the comparison asks of the core.
+use Rattle.std.specs.Prelude.{Err, Option, Some, None, Result}
 use Rattle.std.specs.Int.{w16}
+use Rattle.std.specs.Option.{unwrap_or}
+use Rattle.std.specs.Result.{result_unwrap_or}
 use Rattle.std.proofs.Common.{to_z, of_z}
+use Rattle.answers.specs.declared.Refusal.{Refusal}
 use Rattle.answers.specs.declared.Refusal.TheVariants.{Script}
-use Rattle.answers.specs.Answers.{number_of, buffer_of, place_of}
+use Rattle.answers.specs.Answers.{answer_of}
 use Rattle.control.specs.declared.FilterRegisters.{FilterRegisters}
+use Rattle.sample.specs.declared.Outputs.{Outputs}
+use Rattle.script.specs.declared.Event.{Event}
 use Rattle.filter.specs.declared.Core.{Core}
-use Rattle.filter.specs.Core.{Fed}
+use Rattle.filter.specs.Core.{Fed, no_outputs, feed_of}
 use Rattle.filter.specs.Lent.{Lent}
-use Rattle.filter.specs.Core.{no_outputs, feed_of}
+use Rattle.filter.specs.Lists.{told_of}
 use Rattle.probe.specs.declared.cores.Registers.{Registers}
 use Rattle.probe.specs.declared.cores.Handed.{Handed}
 use Rattle.probe.specs.declared.cores.Given.{Given}
-use Rattle.std.specs.Prelude.{Err, Option, Some, None}
-use Rattle.script.specs.declared.Event.{Event}
+use Rattle.probe.specs.Replies as R
 
 -- the displacement goes by its sixteen bits
 abbrev pub registers_of : Registers → FilterRegisters
@@ -47,9 +52,17 @@ handed_of k = record { registers = registered_of k.state.registers; integrator =
 
 -- an answer by its numbers, the outputs, and the core
 abbrev pub given_of : Fed → Given
-given_of f = record { number = number_of f.answer; buffer = buffer_of f.answer; place = place_of f.answer; outputs = f.outputs; core = handed_of f.core }
+given_of f = record { told = R.told_of f.answer; outputs = f.outputs; core = handed_of f.core }
+
+-- the same from what `Core::feed` answers and the core after it
+abbrev pub given_with : Result (Option Outputs) Refusal → Core → Given
+given_with told k = record { told = R.told_of (answer_of told); outputs = unwrap_or (result_unwrap_or told None) no_outputs; core = handed_of k }
 
 -- the event, and 7 where there is none
 abbrev pub fed_at_of : Lent → Core → Option Event → Fed
 fed_at_of lent k (Some e) = feed_of lent k e
-fed_at_of lent k None = record { answer = Script; outputs = no_outputs; core = k }
+fed_at_of lent k None = record { answer = Err Script; outputs = no_outputs; core = k }
+
+abbrev pub told_at_of : Lent → Core → Option Event → Result (Option Outputs) Refusal
+told_at_of lent k (Some e) = told_of e (feed_of lent k e)
+told_at_of lent k None = Err Script

@@ -1,3 +1,4 @@
+pub mod Replies
 pub mod Probe
 pub mod Surface
 pub mod Steps

@@ -1,13 +1,14 @@
 -- What the comparison asks of the surface and of a curve.
-use Rattle.answers.specs.Answers.{number_of, buffer_of, place_of}
-use Rattle.direct.specs.declared.Valued.{Valued}
-use Rattle.direct.specs.declared.Positioned.{Positioned}
-use Rattle.probe.specs.declared.surface.Value.{Value}
+use Rattle.std.specs.Prelude.{Result}
+use Rattle.std.specs.Result.{result_unwrap_or}
+use Rattle.answers.specs.declared.Refusal.{Refusal}
+use Rattle.answers.specs.Answers.{answer_of, number_of}
+use Rattle.floats.specs.Arithmetic.{f32}
+use Rattle.curves.specs.declared.AnalogueLoadPosition.{AnalogueLoadPosition}
 use Rattle.probe.specs.declared.surface.Load.{Load}
 
--- an answer by its numbers, and the value beside it
-abbrev pub surface_reply_of : Valued → Value
-surface_reply_of r = record { number = number_of r.answer; buffer = buffer_of r.answer; place = place_of r.answer; value = r.value }
-
-abbrev pub load_of : Positioned → Load
-load_of r = record { number = number_of r.answer; lower_base = r.position.lower_base; upper_base = r.position.upper_base; fraction = r.position.fraction }
+-- the number and the position, and zeros beside a refusal
+abbrev pub load_of : Result AnalogueLoadPosition Refusal → Load
+load_of handed =
+    let position = result_unwrap_or handed (record { lower_base = 0; upper_base = 0; fraction = f32 0 }) in
+    record { number = number_of (answer_of handed); lower_base = position.lower_base; upper_base = position.upper_base; fraction = position.fraction }

@@ -4,29 +4,22 @@ ghost use Rattle.response.specs.Levels.{filter_mode_quiescent_level_of};
 ghost use Rattle.sample.specs.Sample.{summer_slot_of, summer_transfer_of};
 ghost use Rattle.transfers.specs.Transfers.{mixer_slot_of, mixer_transfer_of, volume_slot_of, volume_transfer_of};
 ghost use Rattle.direct.specs.Calls as C;
-ghost use Rattle.probe.specs.Calls.{reply_of, point_reply_of, step_reply_of, route_reply_of, bin_reply_of};
+ghost use Rattle.probe.specs.Replies.{reply_of};
+ghost use Rattle.probe.specs.Calls.{no_advanced, no_topology, no_bins, point_reply_of, step_reply_of, route_reply_of, bin_reply_of};
 
-use direct::{Pointed, Valued};
-use integrator::{Advanced, Coefficients, IntegratorState};
+use crate::replies::{self, Reply, Told};
+use answers::Refusal;
+use curves::CurvePoint;
+use integrator::{Advanced, Coefficients, FilterOutputs, IntegratorState};
 use mixing::MixingTopology;
 use response::TablePosition;
 
-// An answer by its numbers, and the value beside it.
-#[repr(C)]
-#[derive(Clone, Copy)]
-pub struct Reply {
-    pub number: u32,
-    pub buffer: u32,
-    pub place: u32,
-    pub value: f32,
-}
-
+// A point of a curve.
 #[repr(C)]
 #[derive(Clone, Copy)]
 pub struct PointReply {
-    pub reply: Reply,
-    pub index: u32,
-    pub fraction: f32,
+    pub told: Told,
+    pub point: CurvePoint,
 }
 
 // The other three refuse with a number alone.
@@ -51,29 +44,93 @@ pub struct BinReply {
     pub position: TablePosition,
 }
 
-fn numbers(r: Valued) -> Reply
-    ensures { result ≡ reply_of r }
+// ---- zeros, which stand beside a refusal
+
+fn no_advanced() -> Advanced
+    ensures { result ≡ no_advanced }
 {
-    let answer = r.answer;
-    let told = answers::report(answer);
-    Reply {
-        number: told.number,
-        buffer: told.buffer,
-        place: told.place,
-        value: r.value,
+    Advanced {
+        outputs: FilterOutputs {
+            high_pass: 0.0,
+            band_pass: 0.0,
+            low_pass: 0.0,
+        },
+        state: crate::no_state(),
     }
 }
 
-fn point_numbers(r: Pointed) -> PointReply
-    ensures { result ≡ point_reply_of r }
+fn no_topology() -> MixingTopology
+    ensures { result ≡ no_topology }
 {
-    let answer = r.answer;
-    let point = r.point;
-    let value = point.value;
-    PointReply {
-        reply: numbers(Valued { answer, value }),
-        index: point.index,
-        fraction: point.fraction,
+    MixingTopology {
+        filter_membership: [false; 4],
+        bypass_membership: [false; 4],
+        filter_input_count: 0,
+        bypass_input_count: 0,
+        filter_output_count: 0,
+        mixer_input_count: 0,
+        filter_input_reciprocal: 0.0,
+        summer_input_reciprocal: 0.0,
+        mixer_input_reciprocal: 0.0,
+        filter_internal_mask: 0,
+        bypass_internal_mask: 0,
+    }
+}
+
+fn no_bins() -> TablePosition
+    ensures { result ≡ no_bins }
+{
+    TablePosition {
+        lower: 0,
+        upper: 0,
+        fraction: 0.0,
+    }
+}
+
+// ---- replies
+
+impl From<Result<CurvePoint, Refusal>> for PointReply {
+    ghost from_gives = { λ handed reply. reply ≡ point_reply_of handed };
+
+    fn from(handed: Result<CurvePoint, Refusal>) -> Self {
+        let (told, point) = replies::parted(handed, curves::no_point());
+        Self { told, point }
+    }
+}
+
+impl From<Result<Advanced, Refusal>> for StepReply {
+    ghost from_gives = { λ handed reply. reply ≡ step_reply_of handed };
+
+    fn from(handed: Result<Advanced, Refusal>) -> Self {
+        let (told, advanced) = replies::parted(handed, no_advanced());
+        Self {
+            number: told.number,
+            advanced,
+        }
+    }
+}
+
+impl From<Result<MixingTopology, Refusal>> for RouteReply {
+    ghost from_gives = { λ handed reply. reply ≡ route_reply_of handed };
+
+    fn from(handed: Result<MixingTopology, Refusal>) -> Self {
+        let (told, topology) = replies::parted(handed, no_topology());
+        Self {
+            number: told.number,
+            topology,
+        }
+    }
+}
+
+impl From<Result<TablePosition, Refusal>> for BinReply {
+    ghost from_gives = { λ handed reply. reply ≡ bin_reply_of handed };
+
+    fn from(handed: Result<TablePosition, Refusal>) -> Self {
+        let (told, position) = replies::parted(handed, no_bins());
+        Self {
+            number: told.number,
+            position,
+        }
     }
 }
 
@@ -88,7 +145,7 @@ pub extern "C" fn probe_direct_summer(
 ) -> PointReply
     ensures { result ≡ point_reply_of (C.summer_transfer_call_of bundle.now curves.now topology sum) }
 {
-    point_numbers(direct::summer_transfer(bundle, curves, topology, sum))
+    direct::summer_transfer(bundle, curves, topology, sum).into()
 }
 
 #[unsafe(no_mangle)]
@@ -99,7 +156,7 @@ pub extern "C" fn probe_direct_mixer(
 ) -> PointReply
     ensures { result ≡ point_reply_of (C.mixer_transfer_call_of curves.now topology sum) }
 {
-    point_numbers(direct::mixer_transfer(curves, topology, sum))
+    direct::mixer_transfer(curves, topology, sum).into()
 }
 
 // The same for any float, and with no look at the buffers.
@@ -136,7 +193,7 @@ pub extern "C" fn probe_any_volume(curves: &[u8], volume: u8, value: f32) -> f32
 pub extern "C" fn probe_direct_saturate(value: f32, drive: f32) -> Reply
     ensures { result ≡ reply_of (C.saturate_call_of value drive) }
 {
-    numbers(direct::saturate(value, drive))
+    direct::saturate(value, drive).into()
 }
 
 #[unsafe(no_mangle)]
@@ -147,26 +204,14 @@ pub extern "C" fn probe_direct_advance(
 ) -> StepReply
     ensures { result ≡ step_reply_of (C.advance_call_of state driven_input k) }
 {
-    let r = direct::advance(state, driven_input, k);
-    let answer = r.answer;
-    let advanced = r.advanced;
-    StepReply {
-        number: answers::report(answer).number,
-        advanced,
-    }
+    direct::advance(state, driven_input, k).into()
 }
 
 #[unsafe(no_mangle)]
 pub extern "C" fn probe_direct_topology(routing: u8, mode: u8) -> RouteReply
     ensures { result ≡ route_reply_of (C.mixing_topology_call_of routing mode) }
 {
-    let r = direct::mixing_topology(routing, mode);
-    let answer = r.answer;
-    let topology = r.topology;
-    RouteReply {
-        number: answers::report(answer).number,
-        topology,
-    }
+    direct::mixing_topology(routing, mode).into()
 }
 
 // ---- response
@@ -182,34 +227,28 @@ pub extern "C" fn probe_direct_quiescent_level() -> f32
 pub extern "C" fn probe_direct_voltage(voltage: f32) -> Reply
     ensures { result ≡ reply_of (C.normalise_voltage_call_of voltage) }
 {
-    numbers(direct::normalise_voltage(voltage))
+    direct::normalise_voltage(voltage).into()
 }
 
 #[unsafe(no_mangle)]
 pub extern "C" fn probe_direct_position(input: f32, band: f32, low: f32) -> BinReply
     ensures { result ≡ bin_reply_of (C.operating_position_call_of input band low) }
 {
-    let r = direct::operating_position(input, band, low);
-    let answer = r.answer;
-    let position = r.position;
-    BinReply {
-        number: answers::report(answer).number,
-        position,
-    }
+    direct::operating_position(input, band, low).into()
 }
 
 #[unsafe(no_mangle)]
 pub extern "C" fn probe_direct_conductance(volume: u8) -> Reply
     ensures { result ≡ reply_of (C.volume_dac_conductance_code_call_of volume) }
 {
-    numbers(direct::volume_dac_conductance_code(volume))
+    direct::volume_dac_conductance_code(volume).into()
 }
 
 #[unsafe(no_mangle)]
 pub extern "C" fn probe_direct_common_mode(mode: u8, cutoff: u16) -> Reply
     ensures { result ≡ reply_of (C.filter_output_common_mode_call_of mode cutoff) }
 {
-    numbers(direct::filter_output_common_mode(mode, cutoff))
+    direct::filter_output_common_mode(mode, cutoff).into()
 }
 
 #[unsafe(no_mangle)]
@@ -221,5 +260,5 @@ pub extern "C" fn probe_direct_mode_gain(
 ) -> Reply
     ensures { result ≡ reply_of (C.filter_mode_output_gain_call_of bundle.now mode resonance cutoff) }
 {
-    numbers(direct::filter_mode_output_gain(bundle, mode, resonance, cutoff))
+    direct::filter_mode_output_gain(bundle, mode, resonance, cutoff).into()
 }

@@ -4,10 +4,11 @@ ghost use Rattle.script.specs.Script.{event_at};
 ghost use Rattle.filter.specs.Lent.{lent_all};
 ghost use Rattle.probe.specs.Cores as K;
 
-use answers::Answer;
+use crate::replies::{self, Told};
+use answers::Refusal;
 use control::{FilterRegisters, State};
 use controls::ControlCache;
-use filter::{Core, Fed};
+use filter::Core;
 use integrator::IntegratorState;
 use mixing::MixingTopology;
 use sample::Outputs;
@@ -42,127 +43,105 @@ pub struct Handed {
 #[repr(C)]
 #[derive(Clone, Copy)]
 pub struct Given {
-    pub number: u32,
-    pub buffer: u32,
-    pub place: u32,
+    pub told: Told,
     pub outputs: Outputs,
     pub core: Handed,
 }
 
-fn fields(r: Registers) -> FilterRegisters
-    ensures { result ≡ K.registers_of r }
-{
-    FilterRegisters {
-        cutoff: r.cutoff,
-        cutoff_dac_displacement_codes: wire::signed16(r.displacement),
-        cutoff_write_base: r.write_base,
-        cutoff_low_pending: r.pending,
-        resonance: r.resonance,
-        routing: r.routing,
-        mode: r.mode,
-        volume: r.volume,
+// Each way by the fields, and the displacement by its sixteen bits.
+impl From<Registers> for FilterRegisters {
+    ghost from_gives = { λ r registers. registers ≡ K.registers_of r };
+
+    fn from(r: Registers) -> Self {
+        Self {
+            cutoff: r.cutoff,
+            cutoff_dac_displacement_codes: wire::signed16(r.displacement),
+            cutoff_write_base: r.write_base,
+            cutoff_low_pending: r.pending,
+            resonance: r.resonance,
+            routing: r.routing,
+            mode: r.mode,
+            volume: r.volume,
+        }
     }
 }
 
-fn taken(h: Handed) -> Core
-    ensures { result ≡ K.handed_core_of h }
-{
-    let r = h.registers;
-    let integrator = h.integrator;
-    let transients = h.transients;
-    let topology = h.topology;
-    let controls = h.controls;
-    let registers = fields(r);
-    Core {
-        state: State {
-            registers,
-            integrator,
-            transients,
-        },
-        topology,
-        controls,
+impl From<FilterRegisters> for Registers {
+    ghost from_gives = { λ r registers. registers ≡ K.registered_of r };
+
+    fn from(r: FilterRegisters) -> Self {
+        Self {
+            cutoff: r.cutoff,
+            displacement: wire::bits16(r.cutoff_dac_displacement_codes),
+            write_base: r.cutoff_write_base,
+            pending: r.cutoff_low_pending,
+            resonance: r.resonance,
+            routing: r.routing,
+            mode: r.mode,
+            volume: r.volume,
+        }
     }
 }
 
-fn registered(r: FilterRegisters) -> Registers
-    ensures { result ≡ K.registered_of r }
-{
-    Registers {
-        cutoff: r.cutoff,
-        displacement: wire::bits16(r.cutoff_dac_displacement_codes),
-        write_base: r.cutoff_write_base,
-        pending: r.cutoff_low_pending,
-        resonance: r.resonance,
-        routing: r.routing,
-        mode: r.mode,
-        volume: r.volume,
+impl From<Handed> for Core {
+    ghost from_gives = { λ h core. core ≡ K.handed_core_of h };
+
+    fn from(h: Handed) -> Self {
+        Self {
+            state: State {
+                registers: h.registers.into(),
+                integrator: h.integrator,
+                transients: h.transients,
+            },
+            topology: h.topology,
+            controls: h.controls,
+        }
     }
 }
 
-fn hand(k: Core) -> Handed
-    ensures { result ≡ K.handed_of k }
-{
-    let state = k.state;
-    let topology = k.topology;
-    let controls = k.controls;
-    let r = state.registers;
-    let integrator = state.integrator;
-    let transients = state.transients;
-    let registers = registered(r);
-    Handed {
-        registers,
-        integrator,
-        transients,
-        topology,
-        controls,
+impl From<Core> for Handed {
+    ghost from_gives = { λ k handed. handed ≡ K.handed_of k };
+
+    fn from(k: Core) -> Self {
+        Self {
+            registers: k.state.registers.into(),
+            integrator: k.state.integrator,
+            transients: k.state.transients,
+            topology: k.topology,
+            controls: k.controls,
+        }
     }
 }
 
-fn numbers(f: Fed) -> Given
-    ensures { result ≡ K.given_of f }
+fn numbers(told: Result<Option<Outputs>, Refusal>, core: Core) -> Given
+    ensures { result ≡ K.given_with told core }
 {
-    let answer = f.answer;
-    let outputs = f.outputs;
-    let k = f.core;
-    let told = answers::report(answer);
-    let core = hand(k);
+    let (told, outputs) = replies::parted(told, None);
     Given {
-        number: told.number,
-        buffer: told.buffer,
-        place: told.place,
-        outputs,
-        core,
+        told,
+        outputs: outputs.unwrap_or(crate::no_outputs()),
+        core: core.into(),
     }
 }
 
 // The event at a place of a script, and 7 where there is none.
-fn fed_at(
+fn feed_at(
     bundle: &[u8],
     curves: &[u8],
     decays: &[u8],
-    core: Core,
+    core: &mut Core,
     script: &[u8],
     place: usize,
-) -> Fed
-    ensures { result ≡ K.fed_at_of (lent_all bundle.now curves.now decays.now) core (event_at script.now place) }
+) -> Result<Option<Outputs>, Refusal>
+    ensures value { result ≡ K.told_at_of (lent_all bundle.now curves.now decays.now) core.old (event_at script.now place) }
+    ensures core_after { core.new ≡ (K.fed_at_of (lent_all bundle.now curves.now decays.now) core.old (event_at script.now place)).core }
 {
-    let decoded = script::event_at(script, place);
-    match decoded {
-        Some(event) => core.feed(bundle, curves, decays, event),
-        None => Fed {
-            answer: Err(Refusal::Script),
-            outputs: Outputs {
-                high: 0.0,
-                band: 0.0,
-                low: 0.0,
-                selected: 0.0,
-            },
-            core,
-        },
-    }
+    let event = script::event_at(script, place).ok_or(Refusal::Script)?;
+    core.feed(bundle, curves, decays, event)
 }
 
 // One event of twelve bytes on the core that is handed in.
+#[tactic(auto, using(crate::proofs::Told::given_fed))]
 #[unsafe(no_mangle)]
 pub extern "C" fn probe_feed(
     bundle: &[u8],
@@ -173,5 +152,7 @@ pub extern "C" fn probe_feed(
 ) -> Given
     ensures { result ≡ K.given_of (K.fed_at_of (lent_all bundle.now curves.now decays.now) (K.handed_core_of core) (event_at event.now 0)) }
 {
-    numbers(fed_at(bundle, curves, decays, taken(core), event, 0))
+    let mut core = Core::from(core);
+    let told = feed_at(bundle, curves, decays, &mut core, event, 0);
+    numbers(told, core)
 }

@@ -3,6 +3,7 @@
 
 mod calls;
 mod cores;
+mod replies;
 mod steps;
 mod surface;
 
@@ -17,14 +18,15 @@ ghost use Rattle.wire.specs.Wire.{put_at};
 ghost use Rattle.control.specs.Block.{decode_of};
 ghost use Rattle.refresh.specs.Refresh.{refresh_of};
 ghost use Rattle.script.specs.Script.{check_script_of};
-ghost use Rattle.probe.specs.Probe.{state_or, write_of, written_of, effective_of, script_reply_of};
+ghost use Rattle.filter.specs.Core.{no_outputs};
+ghost use Rattle.probe.specs.Probe.{no_state, no_controls, state_or, controls_or, write_of, written_of, effective_of, script_reply_of};
 
-use control::{Option<State>, State};
-use controls::ControlCache;
+use control::State;
+use controls::{ControlCache, FilterControls, OutputControls};
 use integrator::{Advanced, Coefficients, IntegratorState};
 use mixing::MixingTopology;
 use response::TablePosition;
-use script::Checked;
+use sample::Outputs;
 
 #[unsafe(no_mangle)]
 pub extern "C" fn probe_saturate(value: f32, drive: f32) -> f32
@@ -109,13 +111,14 @@ pub extern "C" fn probe_line(routing: u8, mode: u8, out: &mut [u8])
 pub extern "C" fn probe_effective_cutoff(block: &[u8]) -> u16
     ensures { result ≡ effective_of (decode_of block.now) }
 {
-    let decoded = State::decode(block);
-    match decoded {
+    match State::decode(block) {
         Some(state) => state.effective_cutoff(),
         None => 65535,
     }
 }
 
+// By the register's number: C has no other name for it.
+#[tactic(auto, unfolding(crate::specs::Probe::write_of))]
 fn write(state: State, register: u8, value: u8) -> State
     ensures { result ≡ write_of state register value }
 {
@@ -133,30 +136,84 @@ fn write(state: State, register: u8, value: u8) -> State
 pub extern "C" fn probe_write(block: &mut [u8], register: u8, value: u8)
     ensures { block.new ≡ written_of (decode_of block.old) block.old register value }
 {
-    let decoded = State::decode(block);
-    if let Some(state) = decoded {
-        let next = write(state, register, value);
-        next.encode(block);
+    if let Some(state) = State::decode(block) {
+        write(state, register, value).encode(block);
     }
 }
 
-fn refreshed(bundle: &[u8], state: State) -> ControlCache
-    ensures { result ≡ (refresh_of bundle.now state).controls }
+// The state of a valid block, and the starting value for any other.
+fn state_or(block: &[u8]) -> State
+    ensures { result ≡ state_or (decode_of block.now) }
 {
-    let fresh = refresh::refresh(bundle, state);
-    fresh.controls
+    State::decode(block).unwrap_or(State::new())
+}
+
+// Zeros, which stand where a sample or the controls are refused.
+fn no_outputs() -> Outputs
+    ensures { result ≡ no_outputs }
+{
+    Outputs {
+        high: 0.0,
+        band: 0.0,
+        low: 0.0,
+        selected: 0.0,
+    }
+}
+
+fn no_state() -> IntegratorState
+    ensures { result ≡ no_state }
+{
+    IntegratorState {
+        band_state: 0.0,
+        low_state: 0.0,
+        filter_source_energy: 0.0,
+    }
+}
+
+fn no_controls() -> ControlCache
+    ensures { result ≡ no_controls }
+{
+    ControlCache {
+        filter: FilterControls {
+            effective_cutoff_index: 0,
+            integrator_gain: [0.0; 16],
+            input_drive: [0.0; 16],
+            feedback_drive: [0.0; 16],
+            damping: 0.0,
+            source_gain_modulation: 0.0,
+            high_pass_low_coupling: 0.0,
+            band_pass_low_coupling: 0.0,
+            resonance_position: 0.0,
+            resonance_index: 0,
+            resonance_feedback_scale: 0.0,
+            source_modulation_resonance_scale: 0.0,
+            resonance_output_gain: 0.0,
+        },
+        mode_output_gain: 0.0,
+        output: OutputControls {
+            filter_common_mode: 0.0,
+            volume_fraction: 0.0,
+            two_voice_volume_gain_offset: 0.0,
+            combined_common_mode_gain: 0.0,
+            pure_bypass_common_mode_gain: 0.0,
+            scaled_filter_common_mode: 0.0,
+            frozen_dac_bias_mode: false,
+        },
+    }
+}
+
+fn controls_or(bundle: &[u8], state: State) -> ControlCache
+    ensures { result ≡ controls_or (refresh_of bundle.now state) }
+{
+    refresh::refresh(bundle, state).unwrap_or(no_controls())
 }
 
 // The controls of a valid block's state, and of the starting value for any other; zeros where they are refused.
 #[unsafe(no_mangle)]
 pub extern "C" fn probe_controls(bundle: &[u8], block: &[u8]) -> ControlCache
-    ensures { result ≡ (refresh_of bundle.now (state_or (decode_of block.now))).controls }
+    ensures { result ≡ controls_or (refresh_of bundle.now (state_or (decode_of block.now))) }
 {
-    let decoded = State::decode(block);
-    match decoded {
-        Some(state) => refreshed(bundle, state),
-        None => refreshed(bundle, State::new()),
-    }
+    controls_or(bundle, state_or(block))
 }
 
 // What the check of a script answers.
@@ -172,14 +229,13 @@ pub struct Script {
 pub extern "C" fn probe_script(script: &[u8]) -> Script
     ensures { result ≡ script_reply_of (check_script_of script.now) }
 {
-    let checked = script::check_script(script);
-    match checked {
-        Checked::WellFormed { events, samples } => Script {
+    match script::check_script(script) {
+        Ok(checked) => Script {
             refused: false,
-            events,
-            samples,
+            events: checked.events,
+            samples: checked.samples,
         },
-        Checked::Refused(_) => Script {
+        Err(_) => Script {
             refused: true,
             events: 0,
             samples: 0,

@@ -2,20 +2,14 @@
 ghost use Rattle.std.specs.Prelude.{◌≡◌};
 ghost use Rattle.curves.specs.Sampling.{sample_of, summer_resting_output_of};
 ghost use Rattle.direct.specs.Calls.{load_position_call_of, sample_call_of};
-ghost use Rattle.probe.specs.Surface.{surface_reply_of, load_of};
+ghost use Rattle.probe.specs.Replies.{reply_of};
+ghost use Rattle.probe.specs.Surface.{load_of};
 
-use direct::Valued;
+use crate::replies::{self, Reply};
+use answers::Refusal;
+use curves::AnalogueLoadPosition;
 
-// An answer by its numbers, and the value beside it.
-#[repr(C)]
-#[derive(Clone, Copy)]
-pub struct Value {
-    pub number: u32,
-    pub buffer: u32,
-    pub place: u32,
-    pub value: f32,
-}
-
+// The number of an answer, and the position beside it, of a type that C does not have.
 #[repr(C)]
 #[derive(Clone, Copy)]
 pub struct Load {
@@ -25,16 +19,22 @@ pub struct Load {
     pub fraction: f32,
 }
 
-fn numbers(r: Valued) -> Value
-    ensures { result ≡ surface_reply_of r }
-{
-    let answer = r.answer;
-    let told = answers::report(answer);
-    Value {
-        number: told.number,
-        buffer: told.buffer,
-        place: told.place,
-        value: r.value,
+impl From<Result<AnalogueLoadPosition, Refusal>> for Load {
+    ghost from_gives = { λ handed load. load ≡ load_of handed };
+
+    fn from(handed: Result<AnalogueLoadPosition, Refusal>) -> Self {
+        let none = AnalogueLoadPosition {
+            lower_base: 0,
+            upper_base: 0,
+            fraction: 0.0,
+        };
+        let (told, position) = replies::parted(handed, none);
+        Self {
+            number: told.number,
+            lower_base: position.lower_base,
+            upper_base: position.upper_base,
+            fraction: position.fraction,
+        }
     }
 }
 
@@ -42,22 +42,14 @@ fn numbers(r: Valued) -> Value
 pub extern "C" fn probe_load_position(conductance: f32) -> Load
     ensures { result ≡ load_of (load_position_call_of conductance) }
 {
-    let r = direct::load_position(conductance);
-    let answer = r.answer;
-    let position = r.position;
-    Load {
-        number: answers::report(answer).number,
-        lower_base: position.lower_base,
-        upper_base: position.upper_base,
-        fraction: position.fraction,
-    }
+    direct::load_position(conductance).into()
 }
 
 #[unsafe(no_mangle)]
-pub extern "C" fn probe_sample(bundle: &[u8], conductance: f32, input: f32) -> Value
-    ensures { result ≡ surface_reply_of (sample_call_of bundle.now conductance input) }
+pub extern "C" fn probe_sample(bundle: &[u8], conductance: f32, input: f32) -> Reply
+    ensures { result ≡ reply_of (sample_call_of bundle.now conductance input) }
 {
-    numbers(direct::sample(bundle, conductance, input))
+    direct::sample(bundle, conductance, input).into()
 }
 
 // The same for any float, and with no look at the bundle.

@@ -4,69 +4,74 @@
 
 ghost use Rattle.std.specs.Prelude.{◌≡◌, ◌≤◌, length};
 
-use answers::Answer;
-use control::{Option<State>, State};
-use controls::{FilterControls, OutputControls};
-use filter::{Core, Fed};
+use answers::Refusal;
+use control::State;
+use controls::{ControlCache, FilterControls, OutputControls};
+use filter::Core;
 use mixing::MixingTopology;
 use sample::Outputs;
 
-// The event at a place of a script, and 7 where there is none.
-fn fed_at(
+// The event at a place of a script, and 7 where there is none. The crate probe has the same, and the zeros below: it exports C names, so neither can use the other.
+fn feed_at(
     bundle: &[u8],
     curves: &[u8],
     decays: &[u8],
-    core: Core,
+    core: &mut Core,
     script: &[u8],
     place: usize,
-) -> Fed {
-    let decoded = script::event_at(script, place);
-    match decoded {
-        Some(event) => core.feed(bundle, curves, decays, event),
-        None => Fed {
-            answer: Err(Refusal::Script),
-            outputs: Outputs {
-                high: 0.0,
-                band: 0.0,
-                low: 0.0,
-                selected: 0.0,
-            },
-            core,
+) -> Result<Option<Outputs>, Refusal> {
+    let event = script::event_at(script, place).ok_or(Refusal::Script)?;
+    core.feed(bundle, curves, decays, event)
+}
+
+// Zeros, which stand in the row of a refused start where its controls are refused.
+fn no_controls() -> ControlCache {
+    ControlCache {
+        filter: FilterControls {
+            effective_cutoff_index: 0,
+            integrator_gain: [0.0; 16],
+            input_drive: [0.0; 16],
+            feedback_drive: [0.0; 16],
+            damping: 0.0,
+            source_gain_modulation: 0.0,
+            high_pass_low_coupling: 0.0,
+            band_pass_low_coupling: 0.0,
+            resonance_position: 0.0,
+            resonance_index: 0,
+            resonance_feedback_scale: 0.0,
+            source_modulation_resonance_scale: 0.0,
+            resonance_output_gain: 0.0,
+        },
+        mode_output_gain: 0.0,
+        output: OutputControls {
+            filter_common_mode: 0.0,
+            volume_fraction: 0.0,
+            two_voice_volume_gain_offset: 0.0,
+            combined_common_mode_gain: 0.0,
+            pure_bypass_common_mode_gain: 0.0,
+            scaled_filter_common_mode: 0.0,
+            frozen_dac_bias_mode: false,
         },
     }
 }
 
-// The state of a valid block, and the starting value for any other.
-fn state_or(block: &[u8]) -> State {
-    let decoded = State::decode(block);
-    match decoded {
-        Some(state) => state,
-        None => State::new(),
-    }
-}
-
-// What the start answers, as an event would, and the first core.
-fn started(bundle: &[u8], curves: &[u8], decays: &[u8], state: State) -> Fed {
-    let written = Core::start(bundle, curves, decays, state);
-    let answer = written.answer;
-    let core = written.core;
-    Fed {
-        answer,
-        outputs: Outputs {
-            high: 0.0,
-            band: 0.0,
-            low: 0.0,
-            selected: 0.0,
-        },
-        core,
+// The core of a state whose start is refused: the list goes on from it.
+fn refused_core(bundle: &[u8], state: State) -> Core {
+    Core {
+        state,
+        topology: filter::fresh_topology(state),
+        controls: refresh::refresh(bundle, state).unwrap_or(no_controls()),
     }
 }
 
 // ---- rows: 108 words that follow an event
 
+// Each part stands at a place of its own, which is below the bound that it asks, and is written where it fits whole. A place that moved on with what is written
+// would be no plainer: its bound would stand at every word.
+
 // A count, and 65,536 for any that is larger.
 fn word(n: usize) -> u32 {
-    if n < 65536 { n as u32 } else { 65536 }
+    n.min(65536) as u32
 }
 
 fn put_floats(out: &mut [u8], at: usize, a: f32, b: f32, c: f32, d: f32) {
@@ -80,17 +85,17 @@ fn put_floats(out: &mut [u8], at: usize, a: f32, b: f32, c: f32, d: f32) {
     );
 }
 
-fn put_flags(out: &mut [u8], at: usize, f: [bool; 4]) {
-    wire::put_row(out, at, f[0] as u32, f[1] as u32, f[2] as u32, f[3] as u32);
+fn put_flags(out: &mut [u8], at: usize, [a, b, c, d]: [bool; 4]) {
+    wire::put_row(out, at, a as u32, b as u32, c as u32, d as u32);
 }
 
 fn put_sixteen(out: &mut [u8], at: usize, x: [f32; 16])
     requires { at ≤ 1000000000 }
 {
-    put_floats(out, at, x[0], x[1], x[2], x[3]);
-    put_floats(out, at + 16, x[4], x[5], x[6], x[7]);
-    put_floats(out, at + 32, x[8], x[9], x[10], x[11]);
-    put_floats(out, at + 48, x[12], x[13], x[14], x[15]);
+    for i in 0..4 {
+        let j = 4 * i;
+        put_floats(out, at + 4 * j, x[j], x[j + 1], x[j + 2], x[j + 3]);
+    }
 }
 
 fn put_state(out: &mut [u8], at: usize, s: State) {
@@ -103,10 +108,8 @@ fn put_state(out: &mut [u8], at: usize, s: State) {
 fn put_members(out: &mut [u8], at: usize, t: MixingTopology)
     requires { at ≤ 1000000000 }
 {
-    let filtered = t.filter_membership;
-    let bypassed = t.bypass_membership;
-    put_flags(out, at, filtered);
-    put_flags(out, at + 16, bypassed);
+    put_flags(out, at, t.filter_membership);
+    put_flags(out, at + 16, t.bypass_membership);
 }
 
 fn put_counts(out: &mut [u8], at: usize, t: MixingTopology) {
@@ -142,12 +145,9 @@ fn put_topology(out: &mut [u8], at: usize, t: MixingTopology)
 fn put_tables(out: &mut [u8], at: usize, f: FilterControls)
     requires { at ≤ 900000000 }
 {
-    let gains = f.integrator_gain;
-    let input_drives = f.input_drive;
-    let feedback_drives = f.feedback_drive;
-    put_sixteen(out, at, gains);
-    put_sixteen(out, at + 64, input_drives);
-    put_sixteen(out, at + 128, feedback_drives);
+    put_sixteen(out, at, f.integrator_gain);
+    put_sixteen(out, at + 64, f.input_drive);
+    put_sixteen(out, at + 128, f.feedback_drive);
 }
 
 fn put_scales(out: &mut [u8], at: usize, f: FilterControls)
@@ -193,37 +193,33 @@ fn put_output(out: &mut [u8], at: usize, o: OutputControls)
     wire::put_u32(out, at + 24, o.frozen_dac_bias_mode as u32);
 }
 
-fn put_given(out: &mut [u8], at: usize, answer: Answer, o: Outputs)
+// What an event answers, and zeros for the outputs where it hands none out.
+fn put_told(out: &mut [u8], at: usize, told: Result<Option<Outputs>, Refusal>)
     requires { at ≤ 1000000000 }
 {
-    let told = answers::report(answer);
-    wire::put_row(out, at, told.number, told.buffer, told.place, 0);
-    put_floats(out, at + 16, o.high, o.band, o.low, o.selected);
+    let answer = answers::report(told.and(Ok(())));
+    wire::put_row(out, at, answer.number, answer.buffer, answer.place, 0);
+    match told {
+        Ok(Some(o)) => put_floats(out, at + 16, o.high, o.band, o.low, o.selected),
+        _ => put_floats(out, at + 16, 0.0, 0.0, 0.0, 0.0),
+    }
 }
 
 fn put_core(out: &mut [u8], at: usize, k: Core)
     requires { at ≤ 700000000 }
 {
-    let state = k.state;
-    let topology = k.topology;
-    let controls = k.controls;
-    let filter = controls.filter;
-    let output = controls.output;
-    put_state(out, at, state);
-    put_topology(out, at + 68, topology);
-    put_filter(out, at + 136, filter);
-    wire::put_f32(out, at + 368, controls.mode_output_gain);
-    put_output(out, at + 372, output);
+    put_state(out, at, k.state);
+    put_topology(out, at + 68, k.topology);
+    put_filter(out, at + 136, k.controls.filter);
+    wire::put_f32(out, at + 368, k.controls.mode_output_gain);
+    put_output(out, at + 372, k.controls.output);
 }
 
-// The row of an event.
-fn put_fed(out: &mut [u8], at: usize, f: Fed)
+// The row of an event: what it answers, and the core after it.
+fn put_fed(out: &mut [u8], at: usize, told: Result<Option<Outputs>, Refusal>, core: Core)
     requires { at ≤ 600000000 }
 {
-    let answer = f.answer;
-    let outputs = f.outputs;
-    let core = f.core;
-    put_given(out, at, answer, outputs);
+    put_told(out, at, told);
     put_core(out, at + 32, core);
 }
 
@@ -231,8 +227,7 @@ fn put_fed(out: &mut [u8], at: usize, f: Fed)
 fn events(script: &[u8]) -> usize
     ensures { result ≤ 65536 }
 {
-    let room = script.len() / 12;
-    if room < 65536 { room } else { 65536 }
+    (script.len() / 12).min(65536)
 }
 
 // The events of a script on the core of a block's state, and after each its row; the row of the start stands first. A refused event hands the
@@ -248,14 +243,14 @@ pub extern "C" fn probe_cores(
 )
     ensures { length out.new ≡ length out.old }
 {
-    let mut fed = started(bundle, curves, decays, state_or(block));
-    let count = events(script);
-    put_fed(out, 0, fed);
-    let mut i = 0;
-    while i < count {
-        let core = fed.core;
-        fed = fed_at(bundle, curves, decays, core, script, 8 + 12 * i);
-        i += 1;
-        put_fed(out, 432 * i, fed);
+    let state = State::decode(block).unwrap_or(State::new());
+    let (started, mut core) = match Core::start(bundle, curves, decays, state) {
+        Ok(core) => (Ok(None), core),
+        Err(refusal) => (Err(refusal), refused_core(bundle, state)),
+    };
+    put_fed(out, 0, started, core);
+    for i in 0..events(script) {
+        let told = feed_at(bundle, curves, decays, &mut core, script, 8 + 12 * i);
+        put_fed(out, 432 * (i + 1), told, core);
     }
 }
