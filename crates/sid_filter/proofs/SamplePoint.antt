@@ -51,21 +51,6 @@ answered : (judged : Answer) (r : Result CurvePoint Refusal) → answer_of (resu
 answered (Ok _) r = refl
 answered (Err refusal) r = refl
 
--- an answer of another number than 7
-other_number : (a : Answer) → (a ≡ Err Script → ⊥) → eqb (number_of a) 7 ≡ false
-other_number (Ok _) h = refl
-other_number (Err BundleLength) h = refl
-other_number (Err (Header place)) h = refl
-other_number (Err (Entry buffer place)) h = refl
-other_number (Err CurvesLength) h = refl
-other_number (Err InputNotFinite) h = refl
-other_number (Err Domain) h = refl
-other_number (Err Script) h = absurd (h refl)
-other_number (Err OutputLength) h = refl
-other_number (Err Argument) h = refl
-other_number (Err Sources) h = refl
-other_number (Err Decays) h = refl
-
 -- ---- a run's answer
 
 run_answered : (l : Lent) (block script output : List ℕ)
@@ -154,15 +139,7 @@ module _ (l : Lent) (block : List ℕ) (sum energy : Float) where
       go (Some s) (Ok _) h played = rw (h, unknown) refl
       go (Some s) (Err refusal) h played = rw (h, rw h at (lent_other l)) refl
 
-  -- ---- as `judge_point` makes its answer of them
-
-  pub told_five : (finite sum && finite energy) ≡ false → no_run ≡ Err Script → Err InputNotFinite ≡ answer_of (sample_point_call_of l block sum energy)
-  told_five unknown seven = rw seven at (no_run_lem unknown)
-
-  pub told_other : (finite sum && finite energy) ≡ false → (no_run ≡ Err Script → ⊥) → no_run ≡ answer_of (sample_point_call_of l block sum energy)
-  told_other unknown other = rw (other_number no_run other) at (no_run_lem unknown)
-
-  -- ---- and `sample_point` its point
+  -- ---- as `sample_point` hands out its point
 
   pub point_refused : {refusal : Refusal} → answer_of (sample_point_call_of l block sum energy) ≡ Err refusal → Err refusal ≡ sample_point_call_of l block sum energy
   point_refused = go (sample_point_call_of l block sum energy)

@@ -1,9 +1,9 @@
 // The C interface of include/sid_filter.h: the calls on lent bytes, with the numbers of docs/FORMATS.md for their answers.
 #![tactic(auto)]
 
-ghost use Rattle.std.specs.Prelude.{◌≡◌, length, replicate};
-ghost use Rattle.answers.specs.declared.Refusal.TheVariants.{Argument};
-ghost use Rattle.answers.specs.Answers.{answer_of, unless_of};
+ghost use Rattle.std.specs.Prelude.{◌≡◌, Err, cond, eqb, length, replicate};
+ghost use Rattle.answers.specs.declared.Refusal.TheVariants.{Argument, InputNotFinite};
+ghost use Rattle.answers.specs.Answers.{answer_of, number_of, unless_of};
 ghost use Rattle.bundle.specs.Opening.{open_of};
 ghost use Rattle.curves.specs.Building.{judge_build_of, build_of};
 ghost use Rattle.control.specs.Widening.{widens_of, widened_of};
@@ -184,6 +184,16 @@ fn tried(bundle: &[u8], curves: &[u8], block: &[u8], script: &[u8]) -> Answer
     run::run(bundle, curves, &mut kept, &decays, script, &mut output).answer
 }
 
+// 7 as 5.
+fn input_for_script(answer: Answer) -> Answer
+    ensures { result ≡ cond (eqb (number_of answer) 7) (Err InputNotFinite) answer }
+{
+    match answer {
+        Err(Refusal::Script) => Err(Refusal::InputNotFinite),
+        _ => answer,
+    }
+}
+
 // What a sample of the state in a block answers: as the run of that one sample. Where the sum or the energy is not finite, as a run without a script, which judges
 // what is lent and the block, and the 7 that it then has is the 5.
 fn judge_point(bundle: &[u8], curves: &[u8], state: &[u8], sum: f32, energy: f32) -> Answer
@@ -197,10 +207,7 @@ fn judge_point(bundle: &[u8], curves: &[u8], state: &[u8], sum: f32, energy: f32
         let script = points::sample_script(sum, energy);
         return tried(bundle, curves, state, &script);
     }
-    match tried(bundle, curves, state, &state[0..0]) {
-        Err(Refusal::Script) => Err(Refusal::InputNotFinite),
-        judged => judged,
-    }
+    input_for_script(tried(bundle, curves, state, &[]))
 }
 
 // The summer's point for a sample of the state in a block.

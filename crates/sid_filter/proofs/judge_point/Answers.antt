@@ -1,6 +1,6 @@
 use mathlib.Core.Path.{sym, subst, ◌∙◌}
 use lib.Dec.{T}
-use Rattle.sid_filter.proofs.SamplePoint.{other_length, one_run_lem, told_five, told_other}
+use Rattle.sid_filter.proofs.SamplePoint.{other_length, one_run_lem, no_run_lem}
 use borrow.Author.Tests.{ne_eqb}
 use Rattle.sid_filter.proofs.judge_point.Goals as goal
 
@@ -20,11 +20,7 @@ returns-then-is_finite c =
 pub tried-requires-2 : goal.tried-requires-2
 tried-requires-2 c = c.if-state-ne-BYTES.false
 
-pub returns-in-Err-Script : goal.returns-in-Err-Script
-returns-in-Err-Script c = ?
-
-pub returns-in_default : goal.returns-in_default
-returns-in_default c = ?
-
-pub returns-in_default-2 : goal.returns-in_default-2
-returns-in_default-2 c = ?
+pub returns : goal.returns
+returns c =
+    let unknown = rw (c.is_finite-2.ensures, c.is_finite.ensures) at c.if-is_finite.false in
+    rw (c.input_for_script.ensures, c.tried-2.ensures) (no_run_lem _ _ _ _ unknown)
