@@ -31,7 +31,12 @@ fn push_words(out: &mut [u8], at: usize, answer: Answer) -> usize
     match answer {
         Ok(()) => push(out, at, b"nothing is refused"),
         Err(Refusal::BundleLength) => push(out, at, b"the bundle is not 6,127,736 bytes long"),
-        Err(Refusal::Header { place }) => push_placed(out, at, b"the bundle's header differs", place),
+        Err(Refusal::Header { place }) => push_placed(
+            out,
+            at,
+            b"the bundle's header differs",
+            place,
+        ),
         Err(Refusal::Entry { buffer, place }) => match buffer {
             Buffer::Bundle => push_placed(out, at, b"an entry of the bundle is unusable", place),
             Buffer::Curves => push_placed(out, at, b"an entry of the curves is unusable", place),

@@ -4,9 +4,11 @@ use replay::{has_flag, part};
 
 // A state's block and the value of a mode write, then the block after it and whether both volume charges are finite there.
 pub(crate) fn charge(r: &[u8]) -> bool {
+    let Some(state) = State::decode(part(r, 0, 68)) else {
+        return false;
+    };
     let value = wire::byte_at(r, 68);
-    State::decode(part(r, 0, 68))
-        .is_some_and(|state| has_charged(r, state.write_mode_and_volume(value)))
+    has_charged(r, state.write_mode_and_volume(value))
 }
 
 fn has_charged(r: &[u8], after: State) -> bool {

@@ -24,10 +24,7 @@ fn whole_load(r: &[u8], bundle: &[u8], curves: &[u8]) -> bool {
     };
     let read = sid_filter::sid_filter_sample_curve(curves, load, input);
     let point = read.point;
-    read.answer.number == 0
-        && value == point.value
-        && has(r, 40, value)
-        && has(r, 44, point.value)
+    read.answer.number == 0 && value == point.value && has(r, 40, value) && has(r, 44, point.value)
 }
 
 // The same of zeros that differ in sign.

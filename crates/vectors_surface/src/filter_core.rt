@@ -57,8 +57,7 @@ pub(crate) fn sample(r: &[u8], bundle: &[u8], curves: &[u8]) -> bool {
     let Some(state) = state_at(r) else {
         return false;
     };
-    keeps_rest(r)
-        && sampled(r, bundle, curves, state).is_ok_and(|sampled| has_sampled(r, sampled))
+    keeps_rest(r) && sampled(r, bundle, curves, state).is_ok_and(|sampled| has_sampled(r, sampled))
 }
 
 // A sample on the topology and the controls that a state's registers give.
@@ -78,7 +77,7 @@ fn sampled(r: &[u8], bundle: &[u8], curves: &[u8], s: State) -> Result<Sampled, 
     )
 }
 
-// What stands for controls that are refused, so that a sample that reads none of them agrees on any bundle.
+// Zeros, in place of controls that are refused: a sample at rest agrees with them too.
 fn no_controls() -> ControlCache {
     ControlCache {
         filter: FilterControls {
