@@ -5,8 +5,8 @@
 mod files;
 mod names;
 
-use answers::Answer;
-use control::{DecodedState, State};
+use answers::{Answer, Refusal, Reported};
+use control::State;
 use std::fs::File;
 use std::io::{Print, Write};
 
@@ -82,19 +82,15 @@ fn bounce(rt: &HostRuntime) -> Result<(), Stop> {
 
 // Stops where a file is refused before the first script.
 fn judge(rt: &HostRuntime, name: &[u8], answer: Answer) -> Result<(), Stop> {
-    if answers::is_done(answer) {
-        Ok(())
-    } else {
-        Err(refuse(rt, name, answer))
-    }
+    answer.map_err(|refusal| refuse(rt, name, refusal))
 }
 
 // Prints the line of a file that is refused.
-fn refuse(rt: &HostRuntime, name: &[u8], answer: Answer) -> Stop {
+fn refuse(rt: &HostRuntime, name: &[u8], refusal: Refusal) -> Stop {
     let mut line = line_room();
-    let end = bounce_lines::refused_line(&mut line, name, answer);
+    let end = bounce_lines::refused_line(&mut line, name, Err(refusal));
     let _ = rt.write_all(&line[..end]);
-    Stop::Refused(answers::report(answer).number)
+    Stop::Refused(Reported::from(refusal).number)
 }
 
 // Loads the state, a valid one. One of 24 bytes has no charges yet, and is widened.
@@ -103,17 +99,17 @@ fn load_state(rt: &HostRuntime, name: &[u8]) -> Result<Vec<u8>, Stop> {
     if block.len() == State::NARROW_BYTES {
         block = widen(rt, name, &block)?;
     }
-    match State::decode(&block) {
-        DecodedState::Valid(_) => Ok(block),
-        DecodedState::Invalid => Err(refuse(rt, name, Answer::Argument)),
+    if State::decode(&block).is_none() {
+        return Err(refuse(rt, name, Refusal::Argument));
     }
+    Ok(block)
 }
 
 // Widens a block that has no charges.
 fn widen(rt: &HostRuntime, name: &[u8], narrow: &[u8]) -> Result<Vec<u8>, Stop> {
     let mut block = [0; 68];
     if !State::widen(narrow, &mut block) {
-        return Err(refuse(rt, name, Answer::Argument));
+        return Err(refuse(rt, name, Refusal::Argument));
     }
     files::copied(rt, name, &block)
 }

@@ -4,7 +4,7 @@ ghost use Rattle.io.specs.Counts.{IsPrefixLen};
 ghost use Rattle.text.specs.Text.{grown, grown_end};
 ghost use Rattle.bounce_lines.specs.Lines.{placed_of, words_of, counts_of, refusal_of, refused_line_of, script_line_of};
 
-use answers::{Answer, Buffer};
+use answers::{Answer, Buffer, Refusal};
 use text::{push, push_number};
 
 // The text with words and a place after it.
@@ -29,37 +29,42 @@ fn push_words(out: &mut [u8], at: usize, answer: Answer) -> usize
     ensures out_after { out.new ≡ grown out.old at (words_of answer) }
 {
     match answer {
-        Answer::Done => push(out, at, b"nothing is refused"),
-        Answer::BundleLength => push(out, at, b"the bundle is not 6,127,736 bytes long"),
-        Answer::Header { place } => push_placed(out, at, b"the bundle's header differs", place),
-        Answer::Entry { buffer, place } => match buffer {
+        Ok(()) => push(out, at, b"nothing is refused"),
+        Err(Refusal::BundleLength) => push(out, at, b"the bundle is not 6,127,736 bytes long"),
+        Err(Refusal::Header { place }) => push_placed(
+            out,
+            at,
+            b"the bundle's header differs",
+            place,
+        ),
+        Err(Refusal::Entry { buffer, place }) => match buffer {
             Buffer::Bundle => push_placed(out, at, b"an entry of the bundle is unusable", place),
             Buffer::Curves => push_placed(out, at, b"an entry of the curves is unusable", place),
         },
-        Answer::CurvesLength => push(out, at, b"the curve buffer is not 254,076 bytes long"),
-        Answer::InputNotFinite => push(
+        Err(Refusal::CurvesLength) => push(out, at, b"the curve buffer is not 254,076 bytes long"),
+        Err(Refusal::InputNotFinite) => push(
             out,
             at,
             b"the input sum or the source energy is not finite",
         ),
-        Answer::Domain => push(out, at, b"a number would be outside the finite domain"),
-        Answer::Script => push(
+        Err(Refusal::Domain) => push(out, at, b"a number would be outside the finite domain"),
+        Err(Refusal::Script) => push(
             out,
             at,
             b"the script's length is not 8 + 12 x count, or its offset, its count, an event's kind or its zero bytes are wrong",
         ),
-        Answer::OutputLength => push(
+        Err(Refusal::OutputLength) => push(
             out,
             at,
             b"the output is shorter than 16 bytes a sample event",
         ),
-        Answer::Argument => push(out, at, b"the state block is invalid"),
-        Answer::Sources => push(
+        Err(Refusal::Argument) => push(out, at, b"the state block is invalid"),
+        Err(Refusal::Sources) => push(
             out,
             at,
             b"a voice, or a number lent beside the voices, is invalid",
         ),
-        Answer::Decays => push(out, at, b"the decays are not six numbers from 0 to 1"),
+        Err(Refusal::Decays) => push(out, at, b"the decays are not six numbers from 0 to 1"),
     }
 }
 
@@ -117,14 +122,18 @@ pub fn script_line(
     ensures out_after { out.new ≡ grown out.old 0 (script_line_of name.now answer events samples) }
 {
     let n = push(out, 0, name);
-    if answers::is_done(answer) {
-        let n = push(out, n, b": done, ");
-        let n = push_counts(out, n, events, samples);
-        return push(out, n, b"\n");
+    match answer {
+        Ok(()) => {
+            let n = push(out, n, b": done, ");
+            let n = push_counts(out, n, events, samples);
+            push(out, n, b"\n")
+        }
+        Err(_) => {
+            let n = push(out, n, b": stopped after ");
+            let n = push_counts(out, n, events, samples);
+            let n = push(out, n, b": ");
+            let n = push_refusal(out, n, answer);
+            push(out, n, b"\n")
+        }
     }
-    let n = push(out, n, b": stopped after ");
-    let n = push_counts(out, n, events, samples);
-    let n = push(out, n, b": ");
-    let n = push_refusal(out, n, answer);
-    push(out, n, b"\n")
 }

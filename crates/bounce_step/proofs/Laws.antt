@@ -7,7 +7,7 @@ use native.Mathlib.Omega.{arith}
 use lib.ListN.{length, drop, length-append, length-drop}
 use lib.Seq.{length-take-le}
 use Rattle.io.specs.Counts.{IsPrefixLen}
-use Rattle.answers.specs.Answers.{is_done_of}
+use Rattle.std.specs.Prelude.{is_ok}
 use Rattle.control.specs.Block.{fields_of}
 use Rattle.script.specs.Script.{events_of}
 use Rattle.filter.specs.Lent.{Lent}
@@ -26,7 +26,7 @@ module _ (lent : Lent) (block script output : List ℕ) where
 
   samples_in : length (run_of lent block script output).output ≡ length output → 16 * (run_of lent block script output).samples ≤ length output
   unfolding run_of
-  samples_in = go (is_done_of (judge_run_of lent block script (length output)))
+  samples_in = go (is_ok (judge_run_of lent block script (length output)))
     where
       go : (d : Bool) → length (cond d (left_of ran output) refused).output ≡ length output → 16 * (cond d (left_of ran output) refused).samples ≤ length output
       go true e =

@@ -1,5 +1,5 @@
 // Records of the crates that stand on no other: constants, answers, floats and wire.
-use answers::{Answer, Buffer};
+use answers::{Answer, Buffer, Refusal};
 use replay::{f64_at, has, has_f64, has_flag, i32_at, part, size_at, u64_at};
 
 // ---- constants
@@ -64,29 +64,30 @@ pub(crate) fn answer(r: &[u8]) -> bool {
 fn answer_of(words: &[u8]) -> Answer {
     let buffer = wire::u32_at(words, 4);
     let place = wire::u32_at(words, 8);
-    match wire::u32_at(words, 0) {
-        0 => Answer::Done,
-        1 => Answer::BundleLength,
-        2 => Answer::Header { place },
+    let refusal = match wire::u32_at(words, 0) {
+        0 => return Ok(()),
+        1 => Refusal::BundleLength,
+        2 => Refusal::Header { place },
         3 => entry_of(buffer, place),
-        4 => Answer::CurvesLength,
-        5 => Answer::InputNotFinite,
-        6 => Answer::Domain,
-        7 => Answer::Script,
-        8 => Answer::OutputLength,
-        10 => Answer::Argument,
-        11 => Answer::Sources,
-        _ => Answer::Decays,
-    }
+        4 => Refusal::CurvesLength,
+        5 => Refusal::InputNotFinite,
+        6 => Refusal::Domain,
+        7 => Refusal::Script,
+        8 => Refusal::OutputLength,
+        10 => Refusal::Argument,
+        11 => Refusal::Sources,
+        _ => Refusal::Decays,
+    };
+    Err(refusal)
 }
 
-fn entry_of(buffer: u32, place: u32) -> Answer {
+fn entry_of(buffer: u32, place: u32) -> Refusal {
     let buffer = if buffer == 0 {
         Buffer::Bundle
     } else {
         Buffer::Curves
     };
-    Answer::Entry { buffer, place }
+    Refusal::Entry { buffer, place }
 }
 
 // ---- floats

@@ -1,15 +1,14 @@
 // Records of what a state is charged with: mode writes, and blocks without charges that are widened.
-use control::{DecodedState, State};
+use control::State;
 use replay::{has_flag, part};
 
 // A state's block and the value of a mode write, then the block after it and whether both volume charges are finite there.
 pub(crate) fn charge(r: &[u8]) -> bool {
-    let decoded = State::decode(part(r, 0, 68));
+    let Some(state) = State::decode(part(r, 0, 68)) else {
+        return false;
+    };
     let value = wire::byte_at(r, 68);
-    match decoded {
-        DecodedState::Valid(state) => has_charged(r, state.write_mode_and_volume(value)),
-        DecodedState::Invalid => false,
-    }
+    has_charged(r, state.write_mode_and_volume(value))
 }
 
 fn has_charged(r: &[u8], after: State) -> bool {

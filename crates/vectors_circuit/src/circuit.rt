@@ -1,5 +1,5 @@
 // Records of the integrator.
-use integrator::{Advanced, Coefficients, IntegratorState, Substeps};
+use integrator::{Advanced, Coefficients, IntegratorState};
 use replay::{has, has_floats, part};
 
 pub(crate) fn saturate(r: &[u8]) -> bool {
@@ -23,10 +23,9 @@ pub(crate) fn substeps(r: &[u8]) -> bool {
     let settled = [32, 52, 72, 92]
         .iter()
         .all(|&place| is_settled(part(r, place, 20)));
-    let four = state_at(r).four_substeps(wire::f32_at(r, 8), coefficients_at(r));
-    match four {
-        Substeps::Settled(last) => settled && has_advanced(r, 92, last),
-        Substeps::NotFinite => !settled,
+    match state_at(r).four_substeps(wire::f32_at(r, 8), coefficients_at(r)) {
+        Some(last) => settled && has_advanced(r, 92, last),
+        None => !settled,
     }
 }
 

@@ -19,15 +19,12 @@ fn put_entries(bundle: &mut [u8], r: &[u8], words: &[u8]) {
 fn whole_load(r: &[u8], bundle: &[u8], curves: &[u8]) -> bool {
     let load = wire::u32_at(r, 32);
     let input = wire::f32_at(r, 36);
-    let sampled = direct::sample(bundle, floats::of_u16(wire::u16_at(r, 32)), input);
-    let answer = sampled.answer;
+    let Ok(value) = direct::sample(bundle, floats::of_u16(wire::u16_at(r, 32)), input) else {
+        return false;
+    };
     let read = sid_filter::sid_filter_sample_curve(curves, load, input);
     let point = read.point;
-    answers::is_done(answer)
-        && read.answer.number == 0
-        && sampled.value == point.value
-        && has(r, 40, sampled.value)
-        && has(r, 44, point.value)
+    read.answer.number == 0 && value == point.value && has(r, 40, value) && has(r, 44, point.value)
 }
 
 // The same of zeros that differ in sign.

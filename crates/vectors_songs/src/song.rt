@@ -60,8 +60,7 @@ fn agrees(piece: Piece<'_>, lent: Lent<'_>, block: &mut [u8; 68]) -> bool {
         piece.script,
         &mut output,
     );
-    let answer = ended.answer;
-    answers::is_done(answer)
+    ended.answer.is_ok()
         && ended.events == wire::u32_at(piece.script, 0) as usize
         && ended.samples == piece.sample_count
         && output.starts_with(piece.samples)
