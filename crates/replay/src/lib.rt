@@ -18,7 +18,7 @@ pub use words::{
 pub const MOST: usize = 1048576;
 
 // The bytes of a file, at most so many: none where it is missing, and those that came where a read or an allocation fails.
-pub fn load<R: Alloc + Files>(rt: &R, file: &str, most: usize) -> Vec<u8, R::A>
+pub fn read_file<R: Alloc + Files>(rt: &R, file: &str, most: usize) -> Vec<u8, R::A>
     ensures { vec_len result ≤ most }
 {
     let mut bytes = Vec::new(rt.alloc());
@@ -89,7 +89,7 @@ pub fn replay_file<R: Alloc + Files + Print, F: FnMut(&[u8]) -> bool>(
     requires { F.IsAlwaysCallable agrees }
     ensures { result ≡ tt }
 {
-    let bytes = load(rt, file, MOST);
+    let bytes = read_file(rt, file, MOST);
     let records = Records {
         bytes: &bytes,
         words,
@@ -119,8 +119,8 @@ fn print_line(rt: &impl Print, file: &str, records: &Records<'_>, agreed: usize)
     let _ = println!(rt; "{title} {agreed} of {count}{short}");
 }
 
-// Prints the line of a file of pieces: its name, how many of them agree and how many it has.
-pub fn print_pieces(rt: &impl Print, file: &str, pieces: usize, agreed: usize)
+// Prints the line of a file of songs: its name, how many of their pieces agree and how many it has.
+pub fn print_songs(rt: &impl Print, file: &str, pieces: usize, agreed: usize)
     ensures { result ≡ tt }
 {
     let title = title_of(file);

@@ -23,7 +23,8 @@ use refresh::{CoreControls, CoreRefreshed};
 use sample::Outputs;
 use script::Event;
 
-// What a run answers: done or its refusal, the events done and the samples written.
+// What a run answers: done or its refusal, the events done and the samples written. Here and below an answer stands beside what was done and not in a `Result`,
+// since a run stops after events that are done.
 #[derive(Clone, Copy)]
 pub struct Ended {
     pub answer: Answer,
@@ -441,6 +442,7 @@ fn play(
     let mut gain = given;
     let mut samples = 0;
     let mut i = 0;
+    // A step is a row of events and a row of samples, so no `for` has it.
     while i < count {
         let moved = play_changes(bundle, state, gain, script, i, count);
         let stopped = moved.answer;

@@ -327,7 +327,7 @@ fn core_input(
 }
 
 // One sample of the filter on the parts of the controls, with the summer's rest worked out before. The operating bin is guessed from `earlier`, capacitors that are
-// there long before those of `s`: what they are does not change the sample, only how soon its tables are read.
+// there long before those of `s`: what they are does not change the sample, only how soon its tables are read. The parts go one by one, in an order found by trial.
 pub fn sample_from_parts(
     curves: &[u8],
     slot: u8,

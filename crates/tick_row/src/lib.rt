@@ -12,7 +12,7 @@ use integrator::IntegratorState;
 use refresh::CoreControls;
 use transients::TransientState;
 
-// Where ticks in a row end: how many were taken, and what is left after them.
+// Where ticks in a row end: how many were taken, and what is left after them. The answer stands beside them, since a row stops after ticks that are taken.
 #[derive(Clone, Copy)]
 pub struct TickRow {
     pub answer: Answer,

@@ -65,7 +65,7 @@ fn agrees<F: FnOnce(&[u8], &[u8], &[u8]) -> bool>(
 // ---- the files, each with the number of words in its records
 
 fn main(rt: HostRuntime) -> Result<(), AllocError> {
-    let mut bundle = replay::load(&rt, "header.bin", BUNDLE_LENGTH);
+    let mut bundle = replay::read_file(&rt, "header.bin", BUNDLE_LENGTH);
     bundle.resize(BUNDLE_LENGTH, 0)?;
     let mut curves = curves_room();
     replay_file(&rt, "whole_loads.bin", 12, |r| {

@@ -10,8 +10,8 @@ use std::io::Print;
 
 // The number that building answers, then the song whole, cut, event by event, and a script of no events.
 fn main(rt: HostRuntime) {
-    let bundle = replay::load(&rt, "bundle.bin", 6127736);
-    let decays = replay::load(&rt, "decays.bin", 24);
+    let bundle = replay::read_file(&rt, "bundle.bin", 6127736);
+    let decays = replay::read_file(&rt, "decays.bin", 24);
     let mut curves = curves_room();
     let built = curves::build(&bundle, &mut curves);
     let number = answers::report(built).number;
@@ -33,9 +33,9 @@ fn main(rt: HostRuntime) {
 
 // Prints the line of one file of pieces.
 fn replay_song<R: Alloc + Files + Print>(rt: &R, file: &str, lent: Lent<'_>) {
-    let bytes = replay::load(rt, file, replay::MOST);
+    let bytes = replay::read_file(rt, file, replay::MOST);
     let agreed = song::count_agreeing(&bytes, lent);
-    replay::print_pieces(rt, file, song::count(&bytes), agreed);
+    replay::print_songs(rt, file, song::count(&bytes), agreed);
 }
 
 fn curves_room() -> [u8; 254076] {

@@ -10,7 +10,7 @@ use replay::replay_file;
 
 // The numbers that opening and building answer, then each file with the number of words in its records, and what says whether a record agrees.
 fn main(rt: HostRuntime) {
-    let bundle = replay::load(&rt, "bundle.bin", 6127736);
+    let bundle = replay::read_file(&rt, "bundle.bin", 6127736);
     let mut curves = curves_room();
     let opened = sid_filter::sid_filter_open(&bundle).number;
     let built = sid_filter::sid_filter_build_curves(&bundle, &mut curves).number;

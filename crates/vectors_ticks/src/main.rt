@@ -75,7 +75,7 @@ fn swap_word(buffer: &mut [u8], place: usize, word: u32) -> u32 {
 // ---- the files, each with the number of words in its records
 
 fn main(rt: HostRuntime) -> Result<(), AllocError> {
-    let mut bundle = replay::load(&rt, "bundle.bin", BUNDLE_LENGTH);
+    let mut bundle = replay::read_file(&rt, "bundle.bin", BUNDLE_LENGTH);
     let bytes = bundle.len();
     bundle.resize(BUNDLE_LENGTH, 0)?;
     let mut curves = curves_room();
