@@ -203,7 +203,7 @@ mod tests {
         for (name, refusal) in named {
             let words = format!("ascii \"{}\"", refusal.sentence());
             let says = if refusal.place().is_some() { format!("placed_of ({words}) place") } else { words };
-            let line = format!("words_of {name} = {says}");
+            let line = format!("words_of (Err {name}) = {says}");
             assert!(LINES.lines().any(|theirs| theirs == line), "{line}");
         }
         // These and the answer of success are all that it has.
