@@ -20,11 +20,11 @@ unfoldable pub all_finite_of : List Float → Bool
 all_finite_of xs = every (λ i. finite (at xs i)) 12
 
 -- The value where both are good, else the answer's refusal.
-abbrev pub settled_of : {T : Type 0} → Bool → Bool → T → Result T Refusal
-settled_of arguments results value = result_and (judge_of arguments results) (Ok value)
+abbrev pub judged_result_of : {T : Type 0} → Bool → Bool → T → Result T Refusal
+judged_result_of arguments results value = result_and (judge_of arguments results) (Ok value)
 
 abbrev pub settle_nodes_of : Bool → List Float → Result (List Float) Refusal
-settle_nodes_of arguments values = settled_of arguments (all_finite_of values) values
+settle_nodes_of arguments values = judged_result_of arguments (all_finite_of values) values
 
 unfoldable pub solve_tridiagonal_of : List Float → List Float → List Float → List Float → Result (List Float) Refusal
 solve_tridiagonal_of lower diagonal upper rhs =
@@ -35,7 +35,7 @@ unfoldable pub ladder_weights_of : Float → Bool → Result (List Float) Refusa
 ladder_weights_of two_r_over_r terminated = settle_nodes_of (finite two_r_over_r) (weights_of two_r_over_r terminated)
 
 abbrev pub settle_level_of : Bool → Float → Result Float Refusal
-settle_level_of arguments value = settled_of arguments (finite value) value
+settle_level_of arguments value = judged_result_of arguments (finite value) value
 
 -- A code has a bit for each of the twelve weights.
 unfoldable pub ladder_value_of : ℕ → List Float → Float → Result Float Refusal

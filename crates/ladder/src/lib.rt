@@ -4,7 +4,7 @@
 ghost use Rattle.std.specs.Prelude.{◌≡◌, ◌<◌, length};
 ghost use Rattle.ladder.specs.Ladder.{first_row_of, next_row_of, position_of, cutoff_scale_of, sweep_of, substitute_of, solve_of, diagonal_of, right_side_of, driven_level_of, driven_levels_of};
 ghost use Rattle.ladder.specs.Ladder.{normalised_of, weights_of, value_of};
-ghost use Rattle.ladder.specs.Calls.{all_finite_of, settled_of, solve_tridiagonal_of, ladder_weights_of, ladder_value_of, positions_finite_of, position_bytes_of};
+ghost use Rattle.ladder.specs.Calls.{all_finite_of, judged_result_of, solve_tridiagonal_of, ladder_weights_of, ladder_value_of, positions_finite_of, position_bytes_of};
 ghost use Rattle.ladder.specs.Calls.{build_cutoff_control_positions_of};
 
 use answers::{Answer, Refusal};
@@ -230,8 +230,8 @@ fn all_finite(xs: &[f64; 12]) -> bool
 }
 
 // What a call answers: 10 for the arguments, then 6 for the results, else its value.
-fn settled<T: Drop>(arguments: bool, results: bool, value: T) -> Result<T, Refusal>
-    ensures { result ≡ settled_of arguments results value }
+fn judged_result<T: Drop>(arguments: bool, results: bool, value: T) -> Result<T, Refusal>
+    ensures { result ≡ judged_result_of arguments results value }
 {
     answers::unless(arguments, Refusal::Argument)?;
     answers::unless(results, Refusal::Domain)?;
@@ -256,7 +256,7 @@ pub fn solve_tridiagonal(
         rhs: *rhs,
     };
     let solved = network.solve();
-    settled(good, all_finite(&solved), solved)
+    judged_result(good, all_finite(&solved), solved)
 }
 
 // The weight of each bit of a ladder of twelve, by the ratio of its resistors.
@@ -266,7 +266,7 @@ pub fn ladder_weights(two_r_over_r: f64, terminated: bool) -> Result<[f64; 12], 
 {
     let good = floats::is_finite_f64(two_r_over_r);
     let shares = weights(two_r_over_r, terminated);
-    settled(good, all_finite(&shares), shares)
+    judged_result(good, all_finite(&shares), shares)
 }
 
 // The level of a code below 4,096.
@@ -276,7 +276,7 @@ pub fn ladder_value(code: usize, weights: &[f64; 12], leakage: f64) -> Result<f6
 {
     let good = (code < 4096) & all_finite(weights) & floats::is_finite_f64(leakage);
     let level = value(code, weights, leakage);
-    settled(good, floats::is_finite_f64(level), level)
+    judged_result(good, floats::is_finite_f64(level), level)
 }
 
 // Writes the control position of each of the 2,048 cutoff codes, as little-endian f32, into 8,192 lent bytes.

@@ -14,7 +14,7 @@ use Rattle.probe.specs.declared.calls.StepReply.{StepReply}
 use Rattle.probe.specs.declared.calls.RouteReply.{RouteReply}
 use Rattle.probe.specs.declared.calls.BinReply.{BinReply}
 use Rattle.probe.specs.Probe.{no_state}
-use Rattle.probe.specs.Replies.{told_of}
+use Rattle.probe.specs.Replies.{told_numbers_of}
 
 abbrev pub no_advanced : Advanced
 no_advanced = record {
@@ -43,7 +43,7 @@ abbrev pub no_bins : TablePosition
 no_bins = record { lower = 0; upper = 0; fraction = f32 0 }
 
 abbrev pub point_reply_of : Result CurvePoint Refusal → PointReply
-point_reply_of handed = record { told = told_of (answer_of handed); point = result_unwrap_or handed no_point }
+point_reply_of handed = record { told = told_numbers_of (answer_of handed); point = result_unwrap_or handed no_point }
 
 -- the other three refuse with a number alone
 abbrev pub step_reply_of : Result Advanced Refusal → StepReply

@@ -52,11 +52,11 @@ handed_of k = record { registers = registered_of k.state.registers; integrator =
 
 -- an answer by its numbers, the outputs, and the core
 abbrev pub given_of : Fed → Given
-given_of f = record { told = R.told_of f.answer; outputs = f.outputs; core = handed_of f.core }
+given_of f = record { told = R.told_numbers_of f.answer; outputs = f.outputs; core = handed_of f.core }
 
 -- the same from what `Core::feed` answers and the core after it
 abbrev pub given_with : Result (Option Outputs) Refusal → Core → Given
-given_with told k = record { told = R.told_of (answer_of told); outputs = unwrap_or (result_unwrap_or told None) no_outputs; core = handed_of k }
+given_with told k = record { told = R.told_numbers_of (answer_of told); outputs = unwrap_or (result_unwrap_or told None) no_outputs; core = handed_of k }
 
 -- the event, and 7 where there is none
 abbrev pub fed_at_of : Lent → Core → Option Event → Fed

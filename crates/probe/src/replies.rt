@@ -1,6 +1,6 @@
 // What the refusing calls reply to C: an answer by its numbers, and what is handed out beside it.
 ghost use Rattle.std.specs.Prelude.{◌≡◌};
-ghost use Rattle.probe.specs.Replies.{told_of, parted_of, reply_of};
+ghost use Rattle.probe.specs.Replies.{told_numbers_of, parted_of, reply_of};
 
 use answers::{Answer, Refusal};
 
@@ -22,7 +22,7 @@ pub struct Reply {
 }
 
 impl From<Answer> for Told {
-    ghost from_gives = { λ answer told. told ≡ told_of answer };
+    ghost from_gives = { λ answer told. told ≡ told_numbers_of answer };
 
     fn from(answer: Answer) -> Self {
         let told = answers::report(answer);
