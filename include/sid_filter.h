@@ -3,7 +3,7 @@
  *
  * A buffer is a pointer and its length in bytes; it needs no alignment. Building writes `curves`; widening writes `wide`; a run writes
  * `state` and `output`; collecting writes `sums`. All else is only read. A written buffer must not overlap another one, and while a call runs
- * nothing else may write what is lent to it. Every call answers by value. None keeps a pointer, allocates, locks or writes static data. The
+ * nothing else may write what is lent to it. Every call answers by value. None keeps a pointer, allocates, locks or has static data. The
  * thread's float mode must be the usual one: round to nearest even, no flush to zero. */
 #ifndef SID_FILTER_H
 #define SID_FILTER_H

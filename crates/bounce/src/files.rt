@@ -1,5 +1,5 @@
 // Files, whole.
-ghost use Rattle.std.specs.Prelude.{◌≡◌};
+ghost use Rattle.std.specs.Prelude.{◌≡◌, ◌≤◌, IfOk, vec_len};
 ghost use Rattle.control.specs.Registers.{starting_state};
 ghost use Rattle.control.specs.Block.{block_of};
 
@@ -40,11 +40,15 @@ pub(crate) fn copied(rt: &HostRuntime, path: &[u8], bytes: &[u8]) -> Result<Vec<
     Vec::from_slice(rt.alloc(), bytes).map_err(|why| unread(rt, path, Error::from(why)))
 }
 
-// The bytes of a file, at most so many. The room is made at once, so that a long file takes no more than its bytes.
-fn read(rt: &HostRuntime, path: &[u8], most: usize) -> io::Result<Vec<u8>> {
+// The bytes of a file, at most so many. The room is made at once, with the one byte more for which `read_to_end` would make more of it.
+fn read(rt: &HostRuntime, path: &[u8], most: usize) -> io::Result<Vec<u8>>
+    ensures { IfOk result (λ bytes. vec_len bytes ≤ most) }
+{
     let file = File::open(rt, name(path)?)?;
-    let mut bytes = Vec::with_capacity(rt.alloc(), most)?;
+    let mut bytes = Vec::with_capacity(rt.alloc(), most.saturating_add(1))?;
     file.take(most as u64).read_to_end(&mut bytes)?;
+    // It has no more; std's contracts say so of readers whose bytes are known.
+    bytes.truncate(most);
     Ok(bytes)
 }
 

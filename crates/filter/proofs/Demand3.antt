@@ -303,7 +303,7 @@ module _ (l : Lent) (s : State) (started : plain_start l s ≡ done) where
       record { ready = p.0; valid = unless_done (valid_of s) Argument q.0; decayed = r.0; judged = r.1 }
 
   pub start_core : (core_start_of l s).core ≡ core_of l s
-  start_core = refl
+  start_core = rw start_parts.judged refl
 
   pub start_agrees : (es : List Event) → Agrees l start_parts.ready start_parts.decayed (core_start_of l s).core es
   start_agrees es =

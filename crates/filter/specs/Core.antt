@@ -17,8 +17,8 @@ use Rattle.control.specs.Block.{valid_of}
 use Rattle.controls.specs.declared.ControlCache.{ControlCache}
 use Rattle.controls.specs.Controls.{refresh_mode_output_gain_of, refresh_register_output_state_of, controls_of}
 use Rattle.controls.specs.Judging.{judge_controls_of, finite_controls_of}
-use Rattle.refresh.specs.Refresh.{judge_gain_of}
-use Rattle.std.specs.Result.{result_and}
+use Rattle.refresh.specs.Refresh.{judge_gain_of, no_controls, refresh_of}
+use Rattle.std.specs.Result.{result_and, result_unwrap_or}
 use Rattle.sample.specs.declared.Outputs.{Outputs}
 use Rattle.sample.specs.declared.Sampled.{Sampled}
 use Rattle.sample.specs.Sample.{summer_slot_of, filter_sample_of}
@@ -91,7 +91,8 @@ after_of k (Err refusal) = record { answer = Err refusal; outputs = no_outputs; 
 -- ---- the start: the core of a state, which is handed out where it is not refused
 
 abbrev pub core_start_of : Lent → State → Written
-core_start_of l s = record { answer = plain_start l s; core = core_of l s }
+core_start_of l s =
+    record { answer = plain_start l s; core = record { state = s; topology = fresh_topology_of s; controls = result_unwrap_or (refresh_of l.bundle s) no_controls } }
 
 abbrev pub started_of : Written → Result Core Refusal
 started_of w = result_and w.answer (Ok w.core)

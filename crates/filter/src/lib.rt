@@ -268,8 +268,8 @@ impl Core {
         ensures value { result ≡ told_of event (F.feed_of (lent_all bundle.now curves.now decays.now) self.old event) }
         ensures core_after { self.new ≡ (F.feed_of (lent_all bundle.now curves.now decays.now) self.old event).core }
     {
-        judge_lent(bundle, curves)?;
-        answers::first(self.judge(), transients::judge_decays(decays))?;
+        let known = answers::first(judge_lent(bundle, curves), self.judge());
+        answers::first(known, transients::judge_decays(decays))?;
         self.feed_event(bundle, curves, event)
     }
 }

@@ -1,15 +1,8 @@
 -- The library's words for what its methods give are those of this crate: at a NaN, an infinity and a number alike. Assumes nothing.
 use Rattle.std.proofs.Common.{◌≡◌, true, false, refl}
 use lib.Ieee.{Float, nan, inf, fin, Format, binary32}
-use lib.Ieee.Scale.{finite}
-use Rattle.std.specs.Float.{float_is_finite, float_round, round_with, round_to_format}
+use Rattle.std.specs.Float.{float_round, round_with, round_to_format}
 use Rattle.floats.specs.Floats.{round_of, narrow_of}
-
-pub is_finite_lem : (x : Float) → float_is_finite x ≡ finite x
-unfolding float_is_finite
-is_finite_lem nan = refl
-is_finite_lem (inf s) = refl
-is_finite_lem (fin s m e) = refl
 
 pub round_lem : (f : Format) (x : Float) → float_round f x ≡ round_of f x
 unfolding round_with round_of

@@ -1,11 +1,12 @@
 -- A rounded value with its sign changed; and back from the whole part of a value, which is the value itself from 2 ^ 24 on. Assumes nothing.
-use Rattle.std.proofs.Common.{◌≡◌, ℕ, zero, suc, ◌+◌, ◌*◌, ◌/◌, ◌^◌, ◌<◌, ◌≤◌, Bool, true, false, cond, not, T, ltb, ℤ, pos, negsuc, sym, refl, ap, ◌∙◌, true≢false, mul_assoc, div-lt_iff_lt-mul, zero-mul, mul-one, div-le_self, div-one, arith, lit<, pow-add, ltb-true}
-use native.Mathlib.Nat.{zero-div}
-use lib.Ieee.{Float, nan, inf, fin, Format, binary32, prec, emax, low, up, down, lt, neg, round, units, odd, of_bits, of_int, fits, to_unsigned}
-use lib.Ieee.Fits.{down_pos, round_is, round-fits}
+use Rattle.std.proofs.Common.{◌≡◌, ℕ, zero, suc, ◌+◌, ◌*◌, ◌/◌, ◌^◌, ◌<◌, ◌≤◌, Bool, true, false, cond, not, T, ltb, ℤ, pos, negsuc, sym, refl, ap, ◌∙◌, true≢false, mul_assoc, div-lt_iff_lt-mul, zero-mul, mul-one, div-le_self, div-one, arith, lit<, pow-add, ltb-true, eqb→eq, pow_pos, eqb-true, mul-pos}
+use native.Mathlib.Nat.{zero-div, pow-succ'}
+use lib.Ieee.{Float, nan, inf, fin, Format, binary32, prec, emax, low, up, down, lt, eq, neg, round, units, odd, of_bits, of_int, fits, to_unsigned}
+use lib.Ieee.Fits.{up_pos, down_pos, round_is, round-fits}
 use lib.Ieee.Back.{whole_unique}
+use Rattle.floats.specs.Floats.{round_of}
 use Rattle.floats.proofs.Formats.{held, exact}
-use Rattle.floats.proofs.Laws.{uncapped, cast_below, cast_above}
+use Rattle.floats.proofs.Laws.{both, uncapped, cast_below, cast_above}
 
 -- ---- the sign
 
@@ -65,3 +66,19 @@ whole_past x {n} e l t = go (lt (neg (of_bits binary32 0x3f80_0000)) x) refl
     go : (b : Bool) → lt (neg (of_bits binary32 0x3f80_0000)) x ≡ b → of_bits binary32 0x5f80_0000 ≡ of_int binary32 (pos n)
     go true u = top_float ∙ ap (λ (k : ℕ). of_int binary32 (pos k)) (cast_above x u t ∙ sym e)
     go false u = absurd (omega (arith, cast_below x u))
+
+-- ---- a zero is whole
+
+-- one that fits has the exponent 0
+zero_exponent : (e : ℤ) → up e * down e ≡ 1 → e ≡ pos 0
+zero_exponent (pos zero) h = refl
+zero_exponent (pos (suc k)) h = absurd (omega (arith, h, pow-succ' 2 k, pow_pos k))
+zero_exponent (negsuc k) h = absurd (omega (arith, h, pow-succ' 2 k, pow_pos k))
+
+pub zero_rounds : (x : Float) → T (fits binary32 x) → eq x (of_bits binary32 0) ≡ true → x ≡ round_of binary32 x
+unfolding eq of_bits fits round_of round
+zero_rounds nan h z = refl
+zero_rounds (inf s) h z = refl
+zero_rounds (fin s zero e) h z = rw (zero_exponent e (eqb→eq (up e * down e) 1 h)) refl
+zero_rounds (fin s (suc m) e) h z =
+    absurd (omega (arith, eqb-true (suc m * up e * 1) (0 * down e) (both _ _ z).0, mul-pos {m = suc m} {n = up e} (omega arith) (up_pos e)))

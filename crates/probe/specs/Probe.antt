@@ -1,5 +1,5 @@
 -- What the comparison asks of a state's block and of a script.
-use Rattle.std.specs.Prelude.{ℕ, true, false, cond, List, eqb, replicate, Option, Some, None, Result, Ok, Err}
+use Rattle.std.specs.Prelude.{ℕ, true, false, cond, List, eqb, Option, Some, None, Result, Ok, Err}
 use Rattle.std.specs.Option.{unwrap_or}
 use Rattle.std.specs.Result.{result_unwrap_or}
 use Rattle.answers.specs.declared.Refusal.{Refusal}
@@ -9,6 +9,7 @@ use Rattle.control.specs.declared.State.{State}
 use Rattle.control.specs.Registers.{effective_cutoff_of, starting_state, write_cutoff_low_of, write_cutoff_high_of, write_signal_routing_of, write_mode_and_volume_of}
 use Rattle.control.specs.Block.{encode_of}
 use Rattle.controls.specs.declared.ControlCache.{ControlCache}
+use Rattle.refresh.specs.Refresh.{no_controls}
 use Rattle.script.specs.declared.Checked.{Checked}
 use Rattle.probe.specs.declared.Script.{Script}
 
@@ -39,42 +40,9 @@ abbrev pub script_reply_of : Result Checked Refusal → Script
 script_reply_of (Ok checked) = record { refused = false; events = checked.events; samples = checked.samples }
 script_reply_of (Err refusal) = record { refused = true; events = 0; samples = 0 }
 
--- zeros, which stand where a sample or the controls are refused
+-- zeros, which stand where a sample is refused
 abbrev pub no_state : IntegratorState
 no_state = record { band_state = f32 0; low_state = f32 0; filter_source_energy = f32 0 }
-
-abbrev pub no_controls : ControlCache
-no_controls =
-    let zeros = replicate 16 (f32 0) in
-    record {
-      filter =
-          record {
-            effective_cutoff_index = 0;
-            integrator_gain = zeros;
-            input_drive = zeros;
-            feedback_drive = zeros;
-            damping = f32 0;
-            source_gain_modulation = f32 0;
-            high_pass_low_coupling = f32 0;
-            band_pass_low_coupling = f32 0;
-            resonance_position = f32 0;
-            resonance_index = 0;
-            resonance_feedback_scale = f32 0;
-            source_modulation_resonance_scale = f32 0;
-            resonance_output_gain = f32 0;
-          };
-      mode_output_gain = f32 0;
-      output =
-          record {
-            filter_common_mode = f32 0;
-            volume_fraction = f32 0;
-            two_voice_volume_gain_offset = f32 0;
-            combined_common_mode_gain = f32 0;
-            pure_bypass_common_mode_gain = f32 0;
-            scaled_filter_common_mode = f32 0;
-            frozen_dac_bias_mode = false;
-          };
-    }
 
 -- the controls, and zeros where they are refused
 abbrev pub controls_or : Result ControlCache Refusal → ControlCache

@@ -16,10 +16,10 @@ ghost use Rattle.mixing.specs.Line.{line_of};
 ghost use Rattle.mixing.specs.Topology.{topology_of};
 ghost use Rattle.wire.specs.Wire.{put_at};
 ghost use Rattle.control.specs.Block.{decode_of};
-ghost use Rattle.refresh.specs.Refresh.{refresh_of};
+ghost use Rattle.refresh.specs.Refresh.{no_controls, refresh_of};
 ghost use Rattle.script.specs.Script.{check_script_of};
 ghost use Rattle.filter.specs.Core.{no_outputs};
-ghost use Rattle.probe.specs.Probe.{no_state, no_controls, state_or, controls_or, write_of, written_of, effective_of, script_reply_of};
+ghost use Rattle.probe.specs.Probe.{no_state, state_or, controls_or, write_of, written_of, effective_of, script_reply_of};
 
 use control::State;
 use controls::{ControlCache, FilterControls, OutputControls};

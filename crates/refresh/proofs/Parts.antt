@@ -29,7 +29,7 @@ use Rattle.controls.specs.Controls.{integrator_gain_of, refresh_filter_controls_
 use Rattle.controls.specs.Judging.{filter_places_of, judge_filter_of, all_finite, finite_filter_of, finite_controls_of, judge_entries_of, judge_domain_of, judge_controls_of}
 use Rattle.answers.specs.declared.Refusal.{Refusal}
 use Rattle.bundle.proofs.Reading.{read_value, read_refused}
-use Rattle.refresh.specs.Refresh.{judge_gain_of, read_mode_output_gain_of, judged_of, refresh_of}
+use Rattle.refresh.specs.Refresh.{judge_gain_of, read_mode_output_gain_of, state_gain_of, judged_of, refresh_of}
 use Rattle.finite.proofs.Finite.{high_coupling_finite, band_coupling_finite, position_finite, feedback_finite, modulation_finite, lift_finite}
 use Rattle.std.specs.Prelude.{Result, Ok, Err}
 
@@ -112,6 +112,13 @@ judged_by_parts bundle s r =
 pub judged_by_registers : (bundle : List ℕ) (s : State) → judged_of bundle (of_registers s.registers) ≡ judged_of bundle s
 unfolding judge_controls_of judge_entries_of judge_domain_of controls_of
 judged_by_registers bundle s = refl
+
+-- where the controls of a state are not refused, its gain is that of its controls
+pub state_gain : (bundle : List ℕ) (s : State) → s.registers.resonance < 256 → judge_controls_of bundle s ≡ done
+    → state_gain_of bundle s ≡ refresh_mode_output_gain_of bundle s.registers (effective_cutoff_of s)
+unfolding read_of
+state_gain bundle s small h =
+    rw (first_done (judge_filter_of bundle (effective_cutoff_of s) s.registers.resonance) _ (sym (judged_by_parts bundle s small) ∙ h)).1 refl
 
 -- ---- what `?` hands on
 

@@ -22,7 +22,7 @@ use Rattle.controls.specs.Judging.{judge_if_of, judge_mode_of, finite_output_of,
 use Rattle.refresh.specs.declared.CoreControls.{CoreControls}
 use Rattle.refresh.specs.declared.CoreRefreshed.{CoreRefreshed}
 use Rattle.answers.specs.declared.Refusal.{Refusal}
-use Rattle.std.specs.Result.{result_and}
+use Rattle.std.specs.Result.{result_and, result_unwrap_or}
 
 -- ---- `refresh_filter_controls`
 
@@ -76,13 +76,46 @@ read_mode_output_gain_of bundle r effective = read_of (judge_gain_of bundle r ef
 
 -- ---- all three
 
--- the gain of a state
+-- the gain of a state, and 0 where it is refused
 abbrev pub state_gain_of : List ℕ → State → Float
-state_gain_of bundle s = refresh_mode_output_gain_of bundle s.registers (effective_cutoff_of s)
+state_gain_of bundle s = result_unwrap_or (read_mode_output_gain_of bundle s.registers (effective_cutoff_of s)) (f32 0)
 
 -- what the controls of a state refuse, or its gain
 abbrev pub judged_of : List ℕ → State → Result Float Refusal
-judged_of bundle s = read_of (judge_controls_of bundle s) (state_gain_of bundle s)
+judged_of bundle s = read_of (judge_controls_of bundle s) (refresh_mode_output_gain_of bundle s.registers (effective_cutoff_of s))
+
+abbrev pub no_controls : ControlCache
+no_controls =
+    let zeros = replicate 16 (f32 0) in
+    record {
+      filter =
+          record {
+            effective_cutoff_index = 0;
+            integrator_gain = zeros;
+            input_drive = zeros;
+            feedback_drive = zeros;
+            damping = f32 0;
+            source_gain_modulation = f32 0;
+            high_pass_low_coupling = f32 0;
+            band_pass_low_coupling = f32 0;
+            resonance_position = f32 0;
+            resonance_index = 0;
+            resonance_feedback_scale = f32 0;
+            source_modulation_resonance_scale = f32 0;
+            resonance_output_gain = f32 0;
+          };
+      mode_output_gain = f32 0;
+      output =
+          record {
+            filter_common_mode = f32 0;
+            volume_fraction = f32 0;
+            two_voice_volume_gain_offset = f32 0;
+            combined_common_mode_gain = f32 0;
+            pure_bypass_common_mode_gain = f32 0;
+            scaled_filter_common_mode = f32 0;
+            frozen_dac_bias_mode = false;
+          };
+    }
 
 -- what they refuse, or the controls
 abbrev pub refresh_of : List ℕ → State → Result ControlCache Refusal

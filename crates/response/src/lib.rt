@@ -40,11 +40,13 @@ pub fn filter_mode_quiescent_level() -> f32
     normalise_voltage(constants::SID_ANALOGUE_QUIESCENT_VOLTS)
 }
 
-// Bit i of a register's byte is set.
+// Bit i of a register's byte is set; none is from bit 8 on.
 pub fn bit(n: u8, i: u32) -> bool
-    requires { i < 8 }
     ensures { result ≡ bit_of n i }
 {
+    if 8 <= i {
+        return false;
+    }
     n >> i & 1 == 1
 }
 

@@ -1,7 +1,8 @@
 -- An event that is no sample: the state that it leads to is valid where it is not refused, and the plain machine goes to it.
 use mathlib.Core.Path.{◌≡◌, refl, sym, ap, ◌∙◌}
 use mathlib.Core.Bool.{true, false, true≢false}
-use Prim.Native.Nat.{ℕ}
+use Prim.Native.Nat.{ℕ, ◌<◌}
+use native.Mathlib.Omega.{arith}
 use mathlib.Core.List.{List}
 use Rattle.answers.specs.declared.Refusal.TheVariants.{Domain}
 use Rattle.answers.specs.Answers.{unless_of, done}
@@ -16,7 +17,7 @@ use Rattle.control.proofs.Valid.{valid_ranges, low_valid, high_valid, routing_va
 use Rattle.controls.specs.Judging.{judge_controls_of}
 use Rattle.bundle.proofs.Reading.{read_value, read_refused}
 use Rattle.refresh.specs.Refresh.{judged_of, state_gain_of}
-use Rattle.refresh.proofs.Parts.{judged_by_registers}
+use Rattle.refresh.proofs.Parts.{judged_by_registers, state_gain}
 use Rattle.script.specs.declared.Event.{Event}
 use Rattle.script.specs.declared.Event.TheVariants.{CutoffLow, CutoffHigh, Routing, Mode, Sample, Reset}
 use Rattle.filter.specs.Lent.{Lent}
@@ -25,6 +26,10 @@ use Rattle.filter.proofs.Demand3.{change_quiet}
 use Rattle.run.specs.Rows.{asked_of, next_of, charges_of, resets_of}
 use Rattle.std.specs.Prelude.{Result, Ok, Err, Float}
 use Rattle.answers.specs.declared.Refusal.{Refusal}
+
+-- A valid state's resonance is a nibble.
+pub resonance_small : (s : State) → valid_of s ≡ true → s.registers.resonance < 256
+resonance_small s v = let r = (valid_ranges s v).resonance in omega arith
 
 module _ (s : State) (v : valid_of s ≡ true) where
   kept : finite_transients_of s.transients ≡ true
@@ -111,8 +116,8 @@ module _ (s : State) (v : valid_of s ≡ true) where
       controls_done : judge_controls_of bundle (next_of s e) ≡ done
       controls_done = (read_value _ _ (sym judged ∙ controls_judged bundle is_j)).0
 
-      pub gain_told : gain ≡ state_gain_of bundle (next_of s e)
-      gain_told = (read_value _ _ (sym judged ∙ controls_judged bundle is_j)).1
+      pub gain_told : (next_of s e).registers.resonance < 256 → gain ≡ state_gain_of bundle (next_of s e)
+      gain_told small = (read_value _ _ (sym judged ∙ controls_judged bundle is_j)).1 ∙ sym (state_gain bundle (next_of s e) small controls_done)
 
       -- an event that charges nothing
       pub quiet_judged : charges_of e ≡ false → judge_change_of bundle (next_of s e) ≡ done

@@ -20,6 +20,7 @@ use Rattle.control.proofs.Valid.{valid_ranges}
 use Rattle.controls.specs.declared.ControlCache.{ControlCache}
 use Rattle.controls.specs.Controls.{refresh_filter_controls_of, controls_of}
 use Rattle.refresh.specs.Refresh.{state_gain_of}
+use Rattle.refresh.proofs.Parts.{state_gain}
 use Rattle.sample.specs.declared.Outputs.{Outputs}
 use Rattle.sample.specs.declared.Sampled.{Sampled}
 use Rattle.sample.specs.Sample.{summer_slot_of, filter_sample_of}
@@ -42,6 +43,7 @@ use Rattle.run.specs.Run.{Ran, stopped, went, play_of, sample_bytes}
 use Rattle.run.specs.Rows.{Asked, Samples, Moves, asked_of, no_samples, one_more, row_on, row_of, moves_of, row_end, play_end}
 use Rattle.run.specs.Parts.{parts_of, cache_of_parts, samples_from, moves_end, resting_of}
 use Rattle.run.proofs.Bytes.{length_outputs, outputs_append}
+use Rattle.run.proofs.Changes.{resonance_small}
 use Rattle.run.proofs.Good.{Good, good_step}
 use Rattle.run.proofs.Moves.{MovesLaw, moves_law, moves_some}
 use Rattle.answers.specs.Answers.{Answer, done}
@@ -261,7 +263,8 @@ parts_sample : (lent : Lent) (s : State) → Good lent s → (j : IntegratorStat
 unfolding parts_of controls_of refresh_filter_controls_of
 parts_sample lent s good j sum energy =
     sym (parts_are_sample lent.bundle lent.curves (summer_slot_of (fresh_topology_of s)) (fresh_topology_of s) (cache_of_parts (parts_of lent.bundle s)) s.registers.mode j sum energy)
-    ∙ (parts_are_sample lent.bundle lent.curves (summer_slot_of (fresh_topology_of s)) (fresh_topology_of s) (controls_of lent.bundle s) s.registers.mode j sum energy)
+    ∙ rw (state_gain lent.bundle s (resonance_small s good.valid) good.judged)
+    (parts_are_sample lent.bundle lent.curves (summer_slot_of (fresh_topology_of s)) (fresh_topology_of s) (controls_of lent.bundle s) s.registers.mode j sum energy)
 
 -- ---- the loop
 

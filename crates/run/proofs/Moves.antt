@@ -19,7 +19,7 @@ use Rattle.control.specs.Block.{valid_of}
 use Rattle.controls.specs.Judging.{judge_controls_of}
 use Rattle.bundle.specs.Reading.{read_of}
 use Rattle.refresh.specs.Refresh.{state_gain_of, judged_of}
-use Rattle.refresh.proofs.Parts.{judged_by_registers}
+use Rattle.refresh.proofs.Parts.{judged_by_registers, state_gain}
 use Rattle.script.specs.declared.Event.{Event}
 use Rattle.script.specs.declared.Event.TheVariants.{CutoffLow, CutoffHigh, Routing, Mode, Sample, Reset}
 use Rattle.script.specs.Script.{event_at, all_readable, events_in, sample_count_of, samples_of}
@@ -31,7 +31,7 @@ use Rattle.run.specs.declared.Moved.{Moved}
 use Rattle.run.specs.Run.{Ran, went, play_of}
 use Rattle.run.specs.Rows.{Moves, asked_of, next_of, charges_of, resets_of, no_moves, one_move, moves_of}
 use Rattle.run.specs.Parts.{From, done_with, moves_end}
-use Rattle.run.proofs.Changes.{next_valid, with_next, quiet_next, charged_next, reset_next, controls_judged, controls_refused, quiet_judged, charge_judged, gain_told, plain_is}
+use Rattle.run.proofs.Changes.{resonance_small, next_valid, with_next, quiet_next, charged_next, reset_next, controls_judged, controls_refused, quiet_judged, charge_judged, gain_told, plain_is}
 use Rattle.run.proofs.Good.{Good}
 use Rattle.std.specs.Prelude.{Result, Ok, Err, is_ok, Some, None}
 use Rattle.answers.specs.declared.Refusal.{Refusal}
@@ -63,7 +63,7 @@ module _ (bundle script : List ℕ) (count start : ℕ) (from : State) where
 
     read_done : judge_controls_of bundle s ≡ done → g ≡ state_gain_of bundle s → judged_of bundle s ≡ done_with g
     unfolding read_of
-    read_done judged gained = rw (judged, gained) refl
+    read_done judged gained = rw (judged, gained, state_gain bundle s (resonance_small s far.valid) judged) refl
 
     pub known : judged_of bundle (of_registers s.registers) ≡ done_with g
     known = judged_by_registers bundle s ∙ read_done far.judged far.gained
@@ -121,7 +121,7 @@ module _ (bundle script : List ℕ) (count start : ℕ) (from : State) where
                   readable = sym (all_next script count i more e is_e) ∙ far.readable;
                   valid = next_valid s far.valid e parts.1;
                   judged = parts.0;
-                  gained = gain_told s far.valid e is_r bundle is_j passed;
+                  gained = gain_told s far.valid e is_r bundle is_j passed (resonance_small n (next_valid s far.valid e parts.1));
                   ends = rw events (sym (ap (moves_end bundle i) whole) ∙ far.ends);
                 })
 

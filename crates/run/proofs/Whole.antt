@@ -20,6 +20,8 @@ use Rattle.control.specs.Block.{valid_of, block_of, fields_of, decode_of, encode
 use Rattle.control.proofs.RoundTrip.{decoded, encode_decoded}
 use Rattle.controls.specs.Judging.{judge_controls_of}
 use Rattle.refresh.specs.Refresh.{state_gain_of}
+use Rattle.refresh.proofs.Parts.{state_gain}
+use Rattle.run.proofs.Changes.{resonance_small}
 use Rattle.script.specs.declared.Event.{Event}
 use Rattle.script.specs.declared.Checked.{Checked}
 use Rattle.script.specs.Script.{well_formed, event_count_of, slices_of, events_of, samples_of, check_script_of}
@@ -110,7 +112,9 @@ module _ (lent : Lent) (script : List ℕ) (s : State) (valid : valid_of s ≡ t
       start_room = record { fewer = omega arith; room = rw (first_is, zero-add (samples_of (events_of script))) (fitting script (length output) fine) }
 
     pub start_from : From lent.bundle s gain
-    start_from = let read = read_value _ _ (sym judged) in record { valid = valid; judged = read.0; gained = read.1 }
+    start_from =
+        let read = read_value _ _ (sym judged) in
+        record { valid = valid; judged = read.0; gained = read.1 ∙ sym (state_gain lent.bundle s (resonance_small s valid) read.0) }
 
 -- ---- what is judged before the controls
 

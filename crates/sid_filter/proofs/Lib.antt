@@ -1,2 +1,3 @@
 pub mod Most
+pub mod Placed
 pub mod SamplePoint

@@ -111,11 +111,14 @@ module _ (l : Lent) (levels : List ℕ) (s : State) (started : turn_start l leve
       let t = first_done (judge_levels_of levels) (judge_controls_of l.bundle s) r.1 in
       record { ready = p.0; valid = unless_done (valid_of s) Argument q.0; decayed = r.0; levelled = t.0; judged = t.1 }
 
+  turn_start_core : (turn_start_of l levels s).core ≡ core_of l s
+  turn_start_core = rw turn_start_parts.judged refl
+
   turn_start_agrees : (xs : List Turn)
       → TurnsAgree l levels turn_start_parts.ready turn_start_parts.decayed turn_start_parts.levelled (turn_start_of l levels s).core xs
   turn_start_agrees xs =
       let p = turn_start_parts in
-      turns_agree l levels p.ready p.decayed p.levelled (core_of l s) xs (fresh_invariant l s p.valid p.judged)
+      rw turn_start_core (turns_agree l levels p.ready p.decayed p.levelled (core_of l s) xs (fresh_invariant l s p.valid p.judged))
 
 -- DEMAND 3, the first half, with ticks. For all that is lent, every state and every list of events and ticks: the start is answered as the plain machine answers it; and where it is
 -- not refused, every sample, tick, state and refusal of the list is the plain machine's, and after each all that is kept equals what is worked out afresh from the state.

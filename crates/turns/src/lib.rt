@@ -46,7 +46,12 @@ pub fn start(
     answers::unless(state.is_valid(), Refusal::Argument)?;
     transients::judge_decays(decays)?;
     judge_levels(levels)?;
-    Core::start(bundle, curves, decays, state)
+    let controls = refresh::refresh(bundle, state)?;
+    Ok(Core {
+        state,
+        topology: filter::fresh_topology(state),
+        controls,
+    })
 }
 
 // ---- the tick
