@@ -39,18 +39,13 @@ fn state_tick(
     transients::judge_decays(decays)?;
     turns::judge_levels(levels)?;
     turns::judge_voices(voices)?;
-    // Where it stands: a core that is moved out of its `Result` is a call of `memcpy`, which no archive needs.
-    match &mut turns::start(bundle, curves, decays, levels, state) {
-        Ok(core) => {
-            let outputs = turns::tick(core, bundle, curves, decays, levels, voices)?;
-            Ok(Ticked {
-                outputs,
-                integrator: core.state.integrator,
-                transients: core.state.transients,
-            })
-        }
-        Err(refusal) => Err(*refusal),
-    }
+    let mut core = turns::start(bundle, curves, decays, levels, state)?;
+    let outputs = turns::tick(&mut core, bundle, curves, decays, levels, voices)?;
+    Ok(Ticked {
+        outputs,
+        integrator: core.state.integrator,
+        transients: core.state.transients,
+    })
 }
 
 fn no_block(bundle: &[u8], curves: &[u8]) -> Result<Ticked, Refusal>

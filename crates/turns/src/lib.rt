@@ -46,12 +46,7 @@ pub fn start(
     answers::unless(state.is_valid(), Refusal::Argument)?;
     transients::judge_decays(decays)?;
     judge_levels(levels)?;
-    let controls = refresh::refresh(bundle, state)?;
-    Ok(Core {
-        state,
-        topology: filter::fresh_topology(state),
-        controls,
-    })
+    Core::start(bundle, curves, decays, state)
 }
 
 // ---- the tick

@@ -49,24 +49,25 @@ returns-in_err-judge_voices c =
       sym c.judge_voices.ensures ∙ c.in_err-judge_voices.was,
     )
 
-pub returns-in-Err : goal.returns-in-Err
+pub returns-in_err-core : goal.returns-in_err-core
 unfolding state_tick_of tick_left_of
-returns-in-Err c =
-    simp (
+returns-in_err-core c =
+    handed_on _ c.from_residual-in_err-core.ensures
+    ∙ simp (
       sym c.judge_lent.ensures ∙ c.in_ok-judge_lent.was,
       ← c.is_valid.ensures,
       unless_done _ _ (sym c.unless.ensures ∙ c.in_ok-unless.was),
       sym c.judge_decays.ensures ∙ c.in_ok-judge_decays.was,
       sym c.judge_levels.ensures ∙ c.in_ok-judge_levels.was,
       sym c.judge_voices.ensures ∙ c.in_ok-judge_voices.was,
-      and_refused _ _ (sym c.start.ensures ∙ c.in-Err.is),
+      and_refused _ _ (sym c.start.ensures ∙ c.in_err-core.was),
     )
 
-pub returns-in_err-outputs-in-Ok : goal.returns-in_err-outputs-in-Ok
+pub returns-in_err-outputs : goal.returns-in_err-outputs
 unfolding state_tick_of tick_left_of
-returns-in_err-outputs-in-Ok c =
-    let started = and_done _ _ (sym c.start.ensures ∙ c.in-Ok.is) in
-    handed_on _ c.from_residual-in_err-outputs-in-Ok.ensures
+returns-in_err-outputs c =
+    let started = and_done _ _ (sym c.start.ensures ∙ c.in_ok-core.was) in
+    handed_on _ c.from_residual-in_err-outputs.ensures
     ∙ simp (
       sym c.judge_lent.ensures ∙ c.in_ok-judge_lent.was,
       ← c.is_valid.ensures,
@@ -76,14 +77,14 @@ returns-in_err-outputs-in-Ok c =
       sym c.judge_voices.ensures ∙ c.in_ok-judge_voices.was,
       started.0,
       started.1,
-      and_refused _ _ (sym c.tick.ensures.value ∙ c.in_err-outputs-in-Ok.was),
+      and_refused _ _ (sym c.tick.ensures.value ∙ c.in_err-outputs.was),
     )
 
-pub returns-in_ok-outputs-in-Ok : goal.returns-in_ok-outputs-in-Ok
+pub returns : goal.returns
 unfolding state_tick_of tick_left_of
-returns-in_ok-outputs-in-Ok c =
-    let started = and_done _ _ (sym c.start.ensures ∙ c.in-Ok.is) in
-    let ticked = and_done _ _ (sym c.tick.ensures.value ∙ c.in_ok-outputs-in-Ok.was) in
+returns c =
+    let started = and_done _ _ (sym c.start.ensures ∙ c.in_ok-core.was) in
+    let ticked = and_done _ _ (sym c.tick.ensures.value ∙ c.in_ok-outputs.was) in
     simp (
       sym c.judge_lent.ensures ∙ c.in_ok-judge_lent.was,
       ← c.is_valid.ensures,

@@ -1,5 +1,6 @@
 use mathlib.Core.Path.{sym, ◌∙◌}
-use Rattle.answers.proofs.Laws.{handed_on, unless_done, unless_refused, and_refused, and_done}
+use Rattle.answers.proofs.Laws.{handed_on, unless_done, unless_refused}
+use Rattle.filter.specs.Plain.{plain_start}
 use Rattle.turns.specs.Turns.{turn_start}
 use Rattle.turns.proofs.start.Goals as goal
 
@@ -36,30 +37,14 @@ returns-in_err-judge_levels c =
       sym c.judge_levels.ensures ∙ c.in_err-judge_levels.was,
     )
 
-pub returns-in_err-controls : goal.returns-in_err-controls
-unfolding turn_start
-returns-in_err-controls c =
-    handed_on _ c.from_residual-in_err-controls.ensures
-    ∙ simp (
-      sym c.judge_lent.ensures ∙ c.in_ok-judge_lent.was,
-      ← c.is_valid.ensures,
-      unless_done _ _ (sym c.unless.ensures ∙ c.in_ok-unless.was),
-      sym c.judge_decays.ensures ∙ c.in_ok-judge_decays.was,
-      sym c.judge_levels.ensures ∙ c.in_ok-judge_levels.was,
-      and_refused _ _ (sym c.refresh.ensures ∙ c.in_err-controls.was),
-    )
-
 pub returns : goal.returns
-unfolding turn_start
+unfolding turn_start plain_start
 returns c =
-    let judged = and_done _ _ (sym c.refresh.ensures ∙ c.in_ok-controls.was) in
     simp (
+      c.start.ensures,
       sym c.judge_lent.ensures ∙ c.in_ok-judge_lent.was,
       ← c.is_valid.ensures,
       unless_done _ _ (sym c.unless.ensures ∙ c.in_ok-unless.was),
       sym c.judge_decays.ensures ∙ c.in_ok-judge_decays.was,
       sym c.judge_levels.ensures ∙ c.in_ok-judge_levels.was,
-      judged.0,
-      judged.1,
-      c.fresh_topology.ensures,
     )
