@@ -11,9 +11,10 @@ use Rattle.transients.specs.Transients.{charge_of, finite_transients_of, finite_
 use Rattle.transients.proofs.Laws.{starting_finite, charge_finite}
 use Rattle.control.specs.declared.FilterRegisters.{FilterRegisters}
 use Rattle.control.specs.declared.State.{State}
-use Rattle.control.specs.Registers.{starting_state, of_registers}
+use Rattle.control.specs.Registers.{starting_state, of_registers, effective_cutoff_of}
 use Rattle.control.specs.Block.{valid_of}
 use Rattle.control.proofs.Valid.{valid_ranges, low_valid, high_valid, routing_valid, mode_valid, starting_valid}
+use Rattle.controls.specs.Controls.{refresh_mode_output_gain_of}
 use Rattle.controls.specs.Judging.{judge_controls_of}
 use Rattle.bundle.proofs.Reading.{read_value, read_refused}
 use Rattle.refresh.specs.Refresh.{judged_of, state_gain_of}
@@ -116,8 +117,12 @@ module _ (s : State) (v : valid_of s ≡ true) where
       controls_done : judge_controls_of bundle (next_of s e) ≡ done
       controls_done = (read_value _ _ (sym judged ∙ controls_judged bundle is_j)).0
 
-      pub gain_told : (next_of s e).registers.resonance < 256 → gain ≡ state_gain_of bundle (next_of s e)
-      gain_told small = (read_value _ _ (sym judged ∙ controls_judged bundle is_j)).1 ∙ sym (state_gain bundle (next_of s e) small controls_done)
+      pub gain_told : gain ≡ refresh_mode_output_gain_of bundle (next_of s e).registers (effective_cutoff_of (next_of s e))
+      gain_told = (read_value _ _ (sym judged ∙ controls_judged bundle is_j)).1
+
+      -- the same, as the gain of a state
+      pub state_gain_told : (next_of s e).registers.resonance < 256 → gain ≡ state_gain_of bundle (next_of s e)
+      state_gain_told small = gain_told ∙ sym (state_gain bundle (next_of s e) small controls_done)
 
       -- an event that charges nothing
       pub quiet_judged : charges_of e ≡ false → judge_change_of bundle (next_of s e) ≡ done

@@ -31,7 +31,7 @@ use Rattle.run.specs.declared.Moved.{Moved}
 use Rattle.run.specs.Run.{Ran, went, play_of}
 use Rattle.run.specs.Rows.{Moves, asked_of, next_of, charges_of, resets_of, no_moves, one_move, moves_of}
 use Rattle.run.specs.Parts.{From, done_with, moves_end}
-use Rattle.run.proofs.Changes.{resonance_small, next_valid, with_next, quiet_next, charged_next, reset_next, controls_judged, controls_refused, quiet_judged, charge_judged, gain_told, plain_is}
+use Rattle.run.proofs.Changes.{resonance_small, next_valid, with_next, quiet_next, charged_next, reset_next, controls_judged, controls_refused, quiet_judged, charge_judged, state_gain_told, plain_is}
 use Rattle.run.proofs.Good.{Good}
 use Rattle.std.specs.Prelude.{Result, Ok, Err, is_ok, Some, None}
 use Rattle.answers.specs.declared.Refusal.{Refusal}
@@ -121,7 +121,7 @@ module _ (bundle script : List ℕ) (count start : ℕ) (from : State) where
                   readable = sym (all_next script count i more e is_e) ∙ far.readable;
                   valid = next_valid s far.valid e parts.1;
                   judged = parts.0;
-                  gained = gain_told s far.valid e is_r bundle is_j passed (resonance_small n (next_valid s far.valid e parts.1));
+                  gained = state_gain_told s far.valid e is_r bundle is_j passed (resonance_small n (next_valid s far.valid e parts.1));
                   ends = rw events (sym (ap (moves_end bundle i) whole) ∙ far.ends);
                 })
 
